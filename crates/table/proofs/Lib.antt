@@ -1,0 +1,12 @@
+pub mod Agreement
+pub mod Bodies
+pub mod CellSteps
+pub mod Cells
+pub mod Codecs
+pub mod HeadAndBody
+pub mod LineSteps
+pub mod NameLines
+pub mod NearFaults
+pub mod Sizes
+pub mod Spans
+pub mod Wrong
