@@ -1,2 +1,9 @@
+pub mod Closures
+pub mod Examples
 pub mod Lattice
+pub mod Listing
+pub mod Members
+pub mod Next
+pub mod Rows
+pub mod Rules
 pub mod Signals

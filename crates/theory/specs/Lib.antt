@@ -1,1 +1,4 @@
+pub mod Closures
+pub mod Rows
+pub mod Rules
 pub mod Words

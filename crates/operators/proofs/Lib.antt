@@ -1,0 +1,4 @@
+pub mod Counting
+pub mod Passes
+pub mod Rows
+pub mod Told

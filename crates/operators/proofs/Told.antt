@@ -1,0 +1,48 @@
+-- What calls tell: of a set that is read, and of a word reckoned over the rules that count.
+use mathlib.Core.List.{List}
+use mathlib.Core.Bool.{Bool}
+use mathlib.Core.Path.{_≡_, refl, sym, ap, _∙_}
+use Prim.Native.Nat.{ℕ, _^_, _<_}
+use lib.ListN.{take}
+use Rattle.sets.specs.declared.rule.Rule.{Rule}
+use Rattle.sets.specs.declared.set.Set.{Set}
+use Rattle.sets.specs.Set.{Inside}
+use Rattle.sets.proofs.Told.{inside-sub, sub-inside}
+use Rattle.std.specs.Orderings.{Decides}
+use Rattle.theory.specs.Rules.{Trigger, inside, LeastKeeping, close, closeR}
+use Rattle.theory.proofs.Rules.{close-least}
+use Rattle.operators.specs.Entailment.{EntailedBy}
+use Rattle.operators.specs.Heeded.{maxRules, ofWidth, ofWidth-within, heeded}
+
+-- ---- a set that is read
+
+pub word-of : {n : ℕ} {a b : Set} → n ≡ a .word → a ≡ b → n ≡ b .word
+word-of e s = e ∙ ap (λ x. x .word) s
+
+pub width-of : {n : ℕ} {a b : Set} → n ≡ a .width → a ≡ b → n ≡ b .width
+width-of e s = e ∙ ap (λ x. x .width) s
+
+-- ---- a word that is reckoned
+
+-- it is the closure
+pub told-close :
+    (t : Trigger) {w m k x y : ℕ} {first : List Rule} (rules : List Rule) → w ≡ close t m (ofWidth m first) x → m ≡ k → first ≡ take maxRules rules
+    → x ≡ y → w ≡ close t k (heeded k rules) y
+told-close t rules e a b d = cc
+
+-- and the least word that keeps the rules
+pub close-told :
+    (t : Trigger) {w k y : ℕ} (rules : List Rule) → w ≡ close t k (heeded k rules) y → y < 2 ^ k → LeastKeeping t k (heeded k rules) y w
+close-told t {w} {k} {y} rules e h = rw e (close-least t k (heeded k rules) (ofWidth-within k (take maxRules rules)) y h)
+
+-- the test of the conclusion against the closure of the premise
+pub decides-entailed :
+    {b : Bool} {m : ℕ} {list : List Rule} (rules : List Rule) (premise conclusion closed : Set) → Decides b (Inside conclusion closed)
+    → closed .width ≡ premise .width → m ≡ premise .width → list ≡ rules → closed .word ≡ closeR m (heeded m list) (premise .word)
+    → Decides b (EntailedBy rules premise conclusion)
+decides-entailed {m = m} {list = list} rules premise conclusion closed d w k l e =
+    let same : closed .word ≡ closeR (premise .width) (heeded (premise .width) rules) (premise .word) =
+    told-close inside rules e k (ap (take maxRules) l) refl in (
+      λ t. let i = d .0 t in record { same = sym (i .same ∙ w); entailed = rw same at (inside-sub conclusion closed i) },
+      λ f. d .1 (sub-inside conclusion closed (sym (f .same) ∙ sym w) (rw same (f .entailed))),
+    )
