@@ -1,7 +1,7 @@
 -- What calls tell: of a set that is read, and of a word reckoned over the rules that count.
 use mathlib.Core.List.{List}
 use mathlib.Core.Bool.{Bool}
-use mathlib.Core.Path.{_≡_, refl, sym, ap, _∙_}
+use mathlib.Core.Path.{_≡_, refl, sym, ap, subst, _∙_}
 use Prim.Native.Nat.{ℕ, _^_, _<_}
 use lib.ListN.{take}
 use Rattle.sets.specs.declared.rule.Rule.{Rule}
@@ -11,7 +11,12 @@ use Rattle.sets.proofs.Told.{inside-sub, sub-inside}
 use Rattle.std.specs.Orderings.{Decides}
 use Rattle.theory.specs.Rules.{Trigger, inside, LeastKeeping, close, closeR}
 use Rattle.theory.proofs.Rules.{close-least}
-use Rattle.operators.specs.Entailment.{EntailedBy}
+use Rattle.operators.specs.Entailment.{EntailedBy, HoldsIn}
+use Rattle.operators.specs.TableClosure.{signalsOf}
+use Rattle.table.specs.declared.place.Place.{Place}
+use Rattle.theory.specs.Rows.{common}
+use Rattle.theory.specs.Words.{Sub}
+use Rattle.theory.proofs.Rows.{holds-common}
 use Rattle.operators.specs.Heeded.{maxRules, ofWidth, ofWidth-within, heeded}
 
 -- ---- a set that is read
@@ -45,4 +50,24 @@ decides-entailed {m = m} {list = list} rules premise conclusion closed d w k l e
     told-close inside rules e k (ap (take maxRules) l) refl in (
       λ t. let i = d .0 t in record { same = sym (i .same ∙ w); entailed = rw same at (inside-sub conclusion closed i) },
       λ f. d .1 (sub-inside conclusion closed (sym (f .same) ∙ sym w) (rw same (f .entailed))),
+    )
+
+-- the test of the conclusion against the signals common to the rows with the premise
+pub decides-holds :
+    {b : Bool} (words viewed : List ℕ) (places put : List Place) (premise conclusion closed : Set) → Decides b (Inside conclusion closed)
+    → closed .width ≡ premise .width → premise .width ≡ signalsOf words places → viewed ≡ words → put ≡ places
+    → closed .word ≡ common (signalsOf viewed put) viewed (premise .word) → Decides b (HoldsIn words places premise conclusion)
+decides-holds words viewed places put premise conclusion closed d w k v p e =
+    let same : closed .word ≡ common (signalsOf words places) words (premise .word) =
+    e ∙ ap (λ x. common (signalsOf x put) x (premise .word)) v ∙ ap (λ x. common (signalsOf words x) words (premise .word)) p in
+    let iff = holds-common (signalsOf words places) words (premise .word) (conclusion .word) in (
+      λ t. let i = d .0 t in
+          let wide : conclusion .width ≡ signalsOf words places = i .same ∙ w ∙ k in
+          record {
+            premiseWidth = k;
+            conclusionWidth = wide;
+            holds = iff (subst (λ n. conclusion .word < 2 ^ n) wide (conclusion .below)) .1 (subst (Sub (conclusion .word)) same (inside-sub conclusion closed i));
+          },
+      λ h. d .1 (sub-inside conclusion closed (h .conclusionWidth ∙ sym k ∙ sym w)
+          (subst (Sub (conclusion .word)) (sym same) (iff (subst (λ n. conclusion .word < 2 ^ n) (h .conclusionWidth) (conclusion .below)) .0 (h .holds)))),
     )
