@@ -1,4 +1,4 @@
-use crate::outcome;
+use crate::outcome::outcome_of;
 use fault::Fault;
 use fault::FaultDebug;
 use fault::FaultPartialEq;
@@ -43,7 +43,7 @@ fn large(
 fn at_the_limits(rt: LibcRuntime) -> Result<(), Fail> {
     let text = large(rt.alloc(), b"B\n\n512\n60\n\n", 512, 60, 40)?;
     check_eq(
-        outcome(&text),
+        outcome_of(&text),
         Ok(Reading {
             rows: 512,
             signals: 60,
@@ -52,7 +52,7 @@ fn at_the_limits(rt: LibcRuntime) -> Result<(), Fail> {
     )?;
     let more_rows = large(rt.alloc(), b"B\n\n513\n60\n\n", 513, 60, 40)?;
     check_eq(
-        outcome(&more_rows),
+        outcome_of(&more_rows),
         Err(Fault {
             letter: b'T',
             number: 36,
@@ -62,7 +62,7 @@ fn at_the_limits(rt: LibcRuntime) -> Result<(), Fail> {
     )?;
     let more_signals = large(rt.alloc(), b"B\n\n512\n61\n\n", 512, 61, 40)?;
     check_eq(
-        outcome(&more_signals),
+        outcome_of(&more_signals),
         Err(Fault {
             letter: b'T',
             number: 36,
@@ -72,7 +72,7 @@ fn at_the_limits(rt: LibcRuntime) -> Result<(), Fail> {
     )?;
     let longer_names = large(rt.alloc(), b"B\n\n512\n60\n\n", 512, 60, 41)?;
     check_eq(
-        outcome(&longer_names),
+        outcome_of(&longer_names),
         Err(Fault {
             letter: b'T',
             number: 38,
@@ -89,7 +89,7 @@ fn long_texts(rt: LibcRuntime) -> Result<(), Fail> {
         text.push(b'z')?;
     }
     check_eq(
-        outcome(&text),
+        outcome_of(&text),
         Ok(Reading {
             rows: 0,
             signals: 0,
@@ -98,7 +98,7 @@ fn long_texts(rt: LibcRuntime) -> Result<(), Fail> {
     )?;
     text.push(b'z')?;
     check_eq(
-        outcome(&text),
+        outcome_of(&text),
         Err(Fault {
             letter: b'T',
             number: 31,
@@ -111,7 +111,7 @@ fn long_texts(rt: LibcRuntime) -> Result<(), Fail> {
 #[test]
 fn small_tables() -> Result<(), Fail> {
     check_eq(
-        outcome(b"B\n\n0\n0\n\n"),
+        outcome_of(b"B\n\n0\n0\n\n"),
         Ok(Reading {
             rows: 0,
             signals: 0,
@@ -119,7 +119,7 @@ fn small_tables() -> Result<(), Fail> {
         }),
     )?;
     check_eq(
-        outcome(b"B\n\n2\n0\n\na\nb\n\n\n"),
+        outcome_of(b"B\n\n2\n0\n\na\nb\n\n\n"),
         Ok(Reading {
             rows: 2,
             signals: 0,
@@ -127,7 +127,7 @@ fn small_tables() -> Result<(), Fail> {
         }),
     )?;
     check_eq(
-        outcome(b"B\n\n2\n0\n\na\nb\n\n"),
+        outcome_of(b"B\n\n2\n0\n\na\nb\n\n"),
         Err(Fault {
             letter: b'F',
             number: 32,
@@ -136,7 +136,7 @@ fn small_tables() -> Result<(), Fail> {
         }),
     )?;
     check_eq(
-        outcome(b"B\n\n0\n2\n\np\nq\n"),
+        outcome_of(b"B\n\n0\n2\n\np\nq\n"),
         Ok(Reading {
             rows: 0,
             signals: 2,
@@ -144,7 +144,7 @@ fn small_tables() -> Result<(), Fail> {
         }),
     )?;
     check_eq(
-        outcome(b"B\n\n1\n1\n\na\np\nX\nmore"),
+        outcome_of(b"B\n\n1\n1\n\na\np\nX\nmore"),
         Ok(Reading {
             rows: 1,
             signals: 1,
@@ -163,7 +163,7 @@ fn cut_short() -> Result<(), Fail> {
             line += 1;
         }
         check_eq(
-            outcome(&text[0..end]),
+            outcome_of(&text[0..end]),
             Err(Fault {
                 letter: b'F',
                 number: 32,
@@ -173,7 +173,7 @@ fn cut_short() -> Result<(), Fail> {
         )?;
     }
     check_eq(
-        outcome(text),
+        outcome_of(text),
         Ok(Reading {
             rows: 2,
             signals: 2,

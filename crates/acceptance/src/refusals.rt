@@ -1,4 +1,4 @@
-use crate::outcome;
+use crate::outcome::outcome_of;
 use fault::Fault;
 use fault::FaultDebug;
 use fault::FaultPartialEq;
@@ -17,7 +17,7 @@ use table::read::read;
 // Checks that a text is refused, and with which letter, number, line and byte.
 fn refused(text: &[u8], letter: u8, number: u8, line: usize, byte: usize) -> Result<(), Fail> {
     check_eq(
-        outcome(text),
+        outcome_of(text),
         Err(Fault {
             letter,
             number,
