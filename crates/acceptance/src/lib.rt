@@ -1,4 +1,6 @@
-//! Tests of reading, viewing, writing and reporting a table.
+//! Tests of reading, viewing, writing and reporting a table, and of listing its closed sets.
+#[cfg(test)]
+mod closings;
 #[cfg(test)]
 mod limits;
 #[cfg(test)]

@@ -1,1 +1,4 @@
+pub mod ClosedPages
+pub mod PageBodies
 pub mod Reporting
+pub mod SetLines

@@ -39,7 +39,10 @@ use Rattle.output.specs.Records.{recordLine}
 use Rattle.table.specs.declared.place.Place.{Place}
 use Rattle.view.specs.Texts.{shownText}
 use Rattle.job.specs.declared.fault.JobFault.{JobFault}
-use Rattle.job.specs.declared.fault.JobFault.the-variants.{SmallOutput, Table, Output}
+use Rattle.job.specs.declared.fault.JobFault.the-variants.{SmallOutput, Table, Output, Tray, Page}
+use Rattle.page.specs.declared.fault.PageFault.the-variants.{Set as OfSet, Output as OfOutput}
+use Rattle.sets.specs.declared.fault.SetFault.the-variants.{Unfit, NotInside, OtherWidth, Ended}
+use Rattle.tray.specs.declared.fault.TrayFault.the-variants.{Full as NoPlace}
 use Rattle.job.specs.Faults.{faultOf}
 use Rattle.job.specs.Reports.{faultLine, readLine, reported, fitted, reportText, jobOf, countOf, padded, refusedOutput, outputAfter, Lined, Reports}
 
@@ -65,6 +68,8 @@ fault-short f small near =
 pub lined-near : (e : JobFault) → Lined e → Near (faultOf e)
 lined-near (Table inner) near = near
 lined-near (Output inner) near = near
+lined-near (Tray inner) near = near
+lined-near (Page inner) near = near
 lined-near SmallOutput none = absurd none
 
 -- every refusal has a number of at most three digits
@@ -87,6 +92,12 @@ pub fault-number : (e : JobFault) → faultOf e .number < 2 ^ 8
 fault-number SmallOutput = omega arith
 fault-number (Table inner) = table-number inner
 fault-number (Output Full) = omega arith
+fault-number (Tray NoPlace) = omega arith
+fault-number (Page (OfSet Unfit)) = omega arith
+fault-number (Page (OfSet NotInside)) = omega arith
+fault-number (Page (OfSet OtherWidth)) = omega arith
+fault-number (Page (OfSet Ended)) = omega arith
+fault-number (Page (OfOutput Full)) = omega arith
 
 -- the output of a refused job is its fault line and zeros
 pub refused-line : (e : JobFault) (told : Fault) (size : ℕ) (out after : List ℕ) → Lined e → 32 ≤ size → told ≡ faultOf e → out ≡ replicate size 0
@@ -105,7 +116,8 @@ answered (Ok c) a e =
     (c, refl, ap (λ x. x .rows) same, ap (λ x. x .signals) same, ap (λ x. x .bytes) same)
 answered (Err e) a is = let z : _≡_ {A = ℕ} 0 1 = cc in absurd (omega arith)
 
-refused-reading : (r : Result Contents TableFault) (e : TableFault) → Err e ≡ answerOf r → r ≡ Err e
+-- a refused reading tells its fault
+pub refused-reading : (r : Result Contents TableFault) (e : TableFault) → Err e ≡ answerOf r → r ≡ Err e
 refused-reading (Ok c) e is = let z : _≡_ {A = ℕ} 0 1 = cc in absurd (omega arith)
 refused-reading (Err f) e is = let same : e ≡ f = cc in ap Err (sym same)
 
@@ -230,6 +242,8 @@ job-granted size n (Err f) before after zeros e put = let z : _≡_ {A = ℕ} 0 
 lined-output : (size : ℕ) (e : JobFault) → Lined e → padded size (faultLine (faultOf e)) ≡ refusedOutput size e
 lined-output size (Table inner) lined = refl
 lined-output size (Output inner) lined = refl
+lined-output size (Tray inner) lined = refl
+lined-output size (Page inner) lined = refl
 lined-output size SmallOutput none = absurd none
 
 -- a refused job leaves its fault line and zeros

@@ -84,7 +84,7 @@ fn put_report(
 }
 
 // Leaves the fault line of a refusal in the output, and zeros behind it.
-fn refuse(out: &mut [u8], fault: JobFault) -> JobFault
+pub(crate) fn refuse(out: &mut [u8], fault: JobFault) -> JobFault
     requires room { ⌜ 32 ≤ length (now out) ⌝ }
     requires near { ⌜ Lined fault ⌝ }
     ensures answer { λ r. ⌜ r ≡ fault ⌝ }
