@@ -4,6 +4,8 @@ ghost use Rattle.theory.specs.Rules.{LeastKeeping, closeS, pass, proper};
 ghost use Rattle.theory.specs.Words.{maxSignals};
 ghost use Rattle.theory.proofs.Rules.{close-closure};
 ghost use denote.Ref.{now};
+ghost use Rattle.std.specs.Orderings.{Decides};
+ghost use lib.Bits.{bitAnd};
 ghost use lib.ListN.{take};
 ghost use mathlib.Core.Path.{_≡_};
 use crate::heeded::first_rules;
@@ -96,9 +98,16 @@ fn one_pass(rules: &[Rule], width: usize, start: u64) -> u64
     for rule in rules {
         let premise = rule.premise();
         let (needed, span) = (premise.word(), premise.width());
-        if needed & word == needed && needed != word && span == width {
+        if is_proper_part(needed, word) && span == width {
             word |= rule.conclusion().word();
         }
     }
     word
+}
+
+// Whether every signal of the one word is in the other, which has more.
+fn is_proper_part(part: u64, word: u64) -> bool
+    ensures told { λ r. ⌜ Decides r ((bitAnd part word ≡ part) × (part ≡ word → ⊥)) ⌝ }
+{
+    part & word == part && part != word
 }
