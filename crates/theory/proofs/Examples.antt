@@ -2,10 +2,14 @@
 use mathlib.Core.Path.{_≡_, refl}
 use mathlib.Core.List.{List, [], _∷_, map}
 use Prim.Native.Nat.{ℕ}
-use Rattle.theory.specs.Closures.{Closed, Listing, closedBelow}
+use native.Mathlib.Omega.{arith}
+use Rattle.theory.specs.Closures.{Closed, Listing}
 use Rattle.theory.specs.Rows.{common}
 use Rattle.theory.specs.Rules.{Implication, closeR, closeS}
+use Rattle.theory.specs.Bases.{BaseUpto}
+use Rattle.theory.proofs.Ganter.{baseBelow-base}
 use Rattle.theory.proofs.Listing.{closedBelow-listing}
+use Rattle.theory.proofs.Rows.{common-closure}
 
 -- ---- rows
 
@@ -54,3 +58,13 @@ base-listing = closedBelow-listing (closeR 3 base) 8
 
 base-listing-S : Listing (Closed (closeS 3 base)) 0 8 (0 ∷ 1 ∷ 2 ∷ 4 ∷ 6 ∷ 7 ∷ [])
 base-listing-S = closedBelow-listing (closeS 3 base) 8
+
+-- ---- bases
+
+-- the base of the table above is the list above
+plant-base : BaseUpto 3 (common 3 plant) 8 base
+plant-base = baseBelow-base 3 (common 3 plant) (common-closure 3 plant (omega arith)) 8 (omega arith)
+
+-- the two rows that share the last signal: the empty set alone is pseudo-closed
+crossed-base : BaseUpto 3 (common 3 (5 ∷ 3 ∷ [])) 8 (record { premise = 0; conclusion = 1 } ∷ [])
+crossed-base = baseBelow-base 3 (common 3 (5 ∷ 3 ∷ [])) (common-closure 3 (5 ∷ 3 ∷ []) (omega arith)) 8 (omega arith)

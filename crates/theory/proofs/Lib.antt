@@ -1,9 +1,13 @@
+pub mod Base
 pub mod Closures
 pub mod Examples
+pub mod Ganter
 pub mod Lattice
 pub mod Listing
 pub mod Members
 pub mod Next
+pub mod Pigeonhole
+pub mod Pseudo
 pub mod Rows
 pub mod Rules
 pub mod Signals

@@ -1,3 +1,4 @@
+pub mod Bases
 pub mod Closures
 pub mod Rows
 pub mod Rules
