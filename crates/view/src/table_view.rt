@@ -11,6 +11,8 @@ use crate::fit::fits;
 use crate::name::Name;
 use table::place::Place;
 
+mod parts;
+
 // Where an absent name stands.
 const ABSENT: Place = Place {
     start: 0,
@@ -60,13 +62,6 @@ impl<'t, 'r, 'p> TableView<'t, 'r, 'p> {
         ensures count { λ r. ⌜ r ≡ length (now (now (self .entry) .places)) - length (now (now (self .entry) .words)) ⌝ }
     {
         self.places.len() - self.rows()
-    }
-
-    // The rows, a word for each.
-    pub fn words(&self) -> &'r [u64]
-        ensures words { λ r. ⌜ now r ≡ now (now (self .entry) .words) ⌝ }
-    {
-        self.words
     }
 
     // The name of a row; the empty part at 0 where there is no such row.
