@@ -1,5 +1,4 @@
-pub mod Bodies
-pub mod Lines
-pub mod Parts
-pub mod Replying
+pub mod ClosedPages
+pub mod PageBodies
 pub mod Reporting
+pub mod SetLines

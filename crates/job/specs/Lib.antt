@@ -1,5 +1,3 @@
 pub mod Faults
-pub mod Jobs
-pub mod Lists
-pub mod Replies
 pub mod Reports
+pub mod Closed

@@ -1,8 +1,7 @@
 ghost use Rattle.std.specs.Prelude.{◌≡◌};
 ghost use Rattle.job.specs.Faults.{fault_of};
-ghost use Rattle.job.specs.declared.fault.JobFault.TheVariants.{Draft, Output, Page, Table, Tray};
+ghost use Rattle.job.specs.declared.fault.JobFault.TheVariants.{Output, Page, Table, Tray};
 
-use draft::fault::DraftFault;
 use fault::Fault;
 use output::fault::OutputFault;
 use page::fault::PageFault;
@@ -22,8 +21,6 @@ pub enum JobFault {
     Tray(TrayFault),
     // A page does not take a head or a line.
     Page(PageFault),
-    // The tray of rules has not the places for the base.
-    Draft(DraftFault),
 }
 
 impl JobFault {
@@ -42,7 +39,6 @@ impl JobFault {
             JobFault::Output(inner) => inner.fault(),
             JobFault::Tray(inner) => inner.fault(),
             JobFault::Page(inner) => inner.fault(),
-            JobFault::Draft(inner) => inner.fault(),
         }
     }
 }
@@ -76,13 +72,5 @@ impl From<PageFault> for JobFault {
 
     fn from(inner: PageFault) -> JobFault {
         JobFault::Page(inner)
-    }
-}
-
-impl From<DraftFault> for JobFault {
-    ghost from_gives = { λ e r. r ≡ Draft e };
-
-    fn from(inner: DraftFault) -> JobFault {
-        JobFault::Draft(inner)
     }
 }

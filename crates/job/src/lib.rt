@@ -1,8 +1,5 @@
-//! The whole job over lent memory: a table text and queries in, pages and answers out.
-mod answers;
-mod entry;
+//! The whole job over lent memory: a table text in, what was read of it out.
+pub mod closed;
+mod closed_page;
 pub mod fault;
-mod part;
 pub mod report;
-pub mod run;
-mod sheet;

@@ -1,6 +1,3 @@
-pub mod Alike
-pub mod Bits
-pub mod ByColumns
 pub mod Counting
 pub mod Passes
 pub mod Rows

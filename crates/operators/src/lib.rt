@@ -1,5 +1,4 @@
 //! Closure operators on sets of signals: one interface, and the operators behind it.
-mod columns;
 pub mod entails;
 pub mod heeded;
 pub mod holds;

@@ -5,7 +5,7 @@ use Rattle.std.proofs.lemmas.Bool.{cond-false, cond-true, eq-eqb, ne_eqb, true�
 use Rattle.output.specs.Puts.{put_at}
 use Rattle.output.proofs.Joins.{joined_append}
 use Rattle.output.proofs.Writing.{Wrote, wrote_more, wrote_room}
-use Rattle.page.specs.Pages.{chosen, names_from, name_fields, signal_names}
+use Rattle.page.specs.Pages.{chosen, chosenFrom, name_fields, signal_names}
 use Rattle.sets.specs.declared.set.Set.{Set}
 use Rattle.sets.specs.Set.{HasSignal}
 use Rattle.table.specs.declared.place.Place.{Place}
@@ -15,40 +15,31 @@ use Rattle.view.specs.Views.{absent, fit, signal_place}
 use Rattle.view.proofs.Laws.{signal_present}
 use Rattle.view.proofs.Lengths.{fit_short}
 
-first_named : (b : Bool) (name : List ℕ) (some more : List (List ℕ)) → cond b (name ∷ (some ++ more)) (some ++ more) ≡ cond b (name ∷ some) some ++ more
-first_named true name some more = refl
-first_named false name some more = refl
+first-chosen : (b : Bool) (name : List ℕ) (some more : List (List ℕ)) → cond b (name ∷ (some ++ more)) (some ++ more) ≡ cond b (name ∷ some) some ++ more
+first-chosen true name some more = refl
+first-chosen false name some more = refl
 
-names_append : (test : ℕ → Bool) (i : ℕ) (names more : List (List ℕ)) → names_from test i (names ++ more) ≡ names_from test i names ++ names_from test (i + length names) more
-names_append test i [] more = ap (λ k. names_from test k more) (sym (add-zero i))
-names_append test i (name ∷ names) more =
+chosen-append : (m word i : ℕ) (names more : List (List ℕ)) → chosenFrom m word i (names ++ more) ≡ chosenFrom m word i names ++ chosenFrom m word (i + length names) more
+chosen-append m word i [] more = ap (λ k. chosenFrom m word k more) (sym (add-zero i))
+chosen-append m word i (name ∷ names) more =
     let next : i + 1 + length names ≡ i + length (name ∷ names) = omega arith in
-    let rest : names_from test (i + 1) (names ++ more) ≡ names_from test (i + 1) names ++ names_from test (i + length (name ∷ names)) more =
-    names_append test (i + 1) names more ∙ ap (λ k. names_from test (i + 1) names ++ names_from test k more) next in
-    ap (λ xs. cond (test i) (name ∷ xs) xs) rest ∙ first_named (test i) name (names_from test (i + 1) names) _
+    let rest : chosenFrom m word (i + 1) (names ++ more) ≡ chosenFrom m word (i + 1) names ++ chosenFrom m word (i + length (name ∷ names)) more =
+    chosen-append m word (i + 1) names more ∙ ap (λ k. chosenFrom m word (i + 1) names ++ chosenFrom m word k more) next in
+    ap (λ xs. cond (eqb (bit_of m i word) 1) (name ∷ xs) xs) rest ∙ first-chosen (eqb (bit_of m i word) 1) name (chosenFrom m word (i + 1) names) _
 
--- two tests with one answer give one list
-pub names_same : (test other : ℕ → Bool) (i : ℕ) (names : List (List ℕ)) → ((k : ℕ) → test k ≡ other k) → names_from test i names ≡ names_from other i names
-names_same test other i [] same = refl
-names_same test other i (name ∷ names) same =
-    ap (λ xs. cond (test i) (name ∷ xs) xs) (names_same test other (i + 1) names same) ∙ ap (λ b. cond b (name ∷ names_from other (i + 1) names) (names_from other (i + 1) names)) (same i)
-
-abbrev member : (m word : ℕ) → ℕ → Bool
-member m word i = eqb (bit_of m i word) 1
-
-chosen_step : (m word : ℕ) (names : List (List ℕ)) (i : ℕ) → i < length names → chosen m word (take (i + 1) names) ≡ chosen m word (take i names) ++ names_from (member m word) i (get_or names i [] ∷ [])
+chosen_step : (m word : ℕ) (names : List (List ℕ)) (i : ℕ) → i < length names → chosen m word (take (i + 1) names) ≡ chosen m word (take i names) ++ chosenFrom m word i (get_or names i [] ∷ [])
 chosen_step m word names i lt =
     let here : 0 + length (take i names) ≡ i = omega (arith, length-take-le i names (omega arith)) in
     ap (chosen m word) (take_more names i [] lt)
-    ∙ names_append (member m word) 0 (take i names) (get_or names i [] ∷ [])
-    ∙ ap (λ k. chosen m word (take i names) ++ names_from (member m word) k (get_or names i [] ∷ [])) here
+    ∙ chosen-append m word 0 (take i names) (get_or names i [] ∷ [])
+    ∙ ap (λ k. chosen m word (take i names) ++ chosenFrom m word k (get_or names i [] ∷ [])) here
 
 -- the fields of those so far are no longer than all
 chosen_front : (m word i : ℕ) (names : List (List ℕ)) → length (name_fields (chosen m word (take i names))) ≤ length (name_fields (chosen m word names))
 chosen_front m word i names =
-    let rest = names_from (member m word) (0 + length (take i names)) (drop i names) in
+    let rest = chosenFrom m word (0 + length (take i names)) (drop i names) in
     let all : name_fields (chosen m word names) ≡ name_fields (chosen m word (take i names)) ++ name_fields rest =
-    ap (λ xs. name_fields (chosen m word xs)) (sym (take-append-drop i names)) ∙ ap name_fields (names_append (member m word) 0 (take i names) (drop i names))
+    ap (λ xs. name_fields (chosen m word xs)) (sym (take-append-drop i names)) ∙ ap name_fields (chosen-append m word 0 (take i names) (drop i names))
     ∙ joined_append (λ name. 44 ∷ name) (chosen m word (take i names)) rest in
     omega (arith, ap length all, length-append (name_fields (chosen m word (take i names))) (name_fields rest))
 
@@ -128,8 +119,16 @@ counted_all set names i count bytes le w =
 
 -- the names as a view shows them
 module _ (text words : List ℕ) (places : List Place) where
-  pub length_names : length (signal_names text words places) ≡ length places - length words
+  length_names : length (signal_names text words places) ≡ length places - length words
   length_names = length-map (drop (length words) places) (part_at text) ∙ length-drop (length words) places
+
+  -- a test of a set's width against the number of signals
+  module _ (set : Set) (width signals : ℕ) (ew : width ≡ set.width) (es : signals ≡ length places - length words) where
+    pub width_same : width ≡ signals → set.width ≡ length (signal_names text words places)
+    width_same same = omega (arith, length_names)
+
+    pub width-other : (width ≡ signals → ⊥) → set.width ≡ length (signal_names text words places) → ⊥
+    width-other differs same = differs (omega (arith, length_names))
 
   module _ (i : ℕ) (lt : i < length (signal_names text words places)) where
     name_here : get_or (signal_names text words places) i [] ≡ part_at text (signal_place (length words) places i)

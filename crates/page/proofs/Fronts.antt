@@ -18,7 +18,8 @@ put_front at bytes front rest le =
     ∙ ap (λ xs. take at front ++ (bytes ++ xs)) (sym last)
     ∙ ap (λ xs. xs ++ (bytes ++ drop (at + length bytes) (front ++ rest))) (sym first)
 
-module _ (at room : ℕ) (bytes out : List ℕ) (some : 0 < length bytes) (is : room ≡ length out - reserve) where
+-- `given` is what the code has for the bytes
+module _ (at room : ℕ) (bytes given out : List ℕ) (same : given ≡ bytes) (some : 0 < length bytes) (is : room ≡ length out - reserve) where
   front_long : length (take room out) ≡ room
   front_long = length-take-le room out (omega arith)
 
@@ -29,23 +30,27 @@ module _ (at room : ℕ) (bytes out : List ℕ) (some : 0 < length bytes) (is : 
       by_order (inl lt) = lt-leb _ _ (omega (arith, front_long)) ∙ sym (lt-leb _ _ lt)
       by_order (inr le) = le-leb _ _ (omega (arith, front_long)) ∙ sym (le-leb _ _ le)
 
-  pub front_granted : (end : ℕ) → Ok end ≡ put_answer_of at bytes (take room out) → (fits_before at bytes out ≡ true) × (end ≡ at + length bytes)
+  pub front_granted : (end : ℕ) → Ok end ≡ put_answer_of at given (take room out) → (fits_before at bytes out ≡ true) × (end ≡ at + length bytes)
   front_granted end e =
-      let le : at + length bytes ≤ length (take room out) = granted_fits at end bytes (take room out) e in
+      let answer : Ok end ≡ put_answer_of at bytes (take room out) = e ∙ ap (λ bs. put_answer_of at bs (take room out)) same in
+      let le : at + length bytes ≤ length (take room out) = granted_fits at end bytes (take room out) answer in
       let granted = answer_fits at bytes (take room out) le in
       (sym fits_front ∙ le-leb _ _ le, cc)
 
-  pub front_refused : (fault : OutputFault) → Err fault ≡ put_answer_of at bytes (take room out) → fits_before at bytes out ≡ false
-  front_refused fault e = sym fits_front ∙ lt-leb _ _ (refused_long at bytes (take room out) fault e)
+  pub front_refused : (fault : OutputFault) → Err fault ≡ put_answer_of at given (take room out) → fits_before at bytes out ≡ false
+  front_refused fault e = sym fits_front ∙ lt-leb _ _ (refused_long at bytes (take room out) fault (e ∙ ap (λ bs. put_answer_of at bs (take room out)) same))
 
-  pub front_output : (part : List ℕ) → part ≡ after_put at bytes (take room out) → part ++ drop room out ≡ put_before at bytes out
+  pub front_output : (part : List ℕ) → part ≡ after_put at given (take room out) → part ++ drop room out ≡ put_before at bytes out
   front_output part e = by_test (cases_Bool (fits_before at bytes out))
     where
+      after : part ≡ after_put at bytes (take room out)
+      after = e ∙ ap (λ bs. after_put at bs (take room out)) same
+
       by_test : (fits_before at bytes out ≡ true) ⊎ (fits_before at bytes out ≡ false) → part ++ drop room out ≡ put_before at bytes out
       by_test (inl fits) =
-          let put : part ≡ put_at at bytes (take room out) = e ∙ cond-true _ _ _ (fits_front ∙ fits) in
+          let put : part ≡ put_at at bytes (take room out) = after ∙ cond-true _ _ _ (fits_front ∙ fits) in
           ap (λ xs. xs ++ drop room out) put
           ∙ put_front at bytes (take room out) (drop room out) (leb-true _ _ (fits_front ∙ fits))
           ∙ ap (put_at at bytes) (take-append-drop room out)
           ∙ sym (cond-true _ _ _ fits)
-      by_test (inr full) = ap (λ xs. xs ++ drop room out) (e ∙ cond-false _ _ _ (fits_front ∙ full)) ∙ take-append-drop room out ∙ sym (cond-false _ _ _ full)
+      by_test (inr full) = ap (λ xs. xs ++ drop room out) (after ∙ cond-false _ _ _ (fits_front ∙ full)) ∙ take-append-drop room out ∙ sym (cond-false _ _ _ full)

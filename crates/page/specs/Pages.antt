@@ -4,18 +4,16 @@
 --   foot     the last line, with the number of lines between head and foot
 --   letter   what tells the operator that a page is over
 --   chosen   the names of the signals that belong to a set, in the order of the signals
---   added    the names of the signals that a rule adds to its premise, in the order of the signals
-use Rattle.std.specs.Prelude.{◌≡◌, ℕ, ◌+◌, Bool, true, false, cond, ◌&&◌, List, [], ◌∷◌, ◌++◌, length, Ok, Err, codes, decimal, Result, MatchResult, ◌==◌, nat_eq, nat_le, nat_lt}
+use Rattle.std.specs.Prelude.{◌≡◌, ℕ, ◌+◌, Bool, true, false, cond, ◌&&◌, List, [], ◌∷◌, ◌++◌, length, Ok, Err, codes, Result, MatchResult, ◌==◌, nat_le, nat_lt}
 use Rattle.std.specs.List.{flat_map}
 use Rattle.output.specs.declared.fault.OutputFault.{OutputFault}
 use Rattle.output.specs.declared.fault.OutputFault.TheVariants.{Full}
 use Rattle.output.specs.Puts.{put_at}
-use Rattle.output.specs.Records.{record_line}
+use Rattle.output.specs.Records.{number_fields, record_line}
 use Rattle.page.specs.declared.fault.PageFault.{PageFault}
 use Rattle.page.specs.declared.fault.PageFault.TheVariants as fault
 use Rattle.page.specs.declared.page.Page.{Page}
 use Rattle.sets.specs.declared.fault.SetFault.TheVariants.{OtherWidth}
-use Rattle.sets.specs.declared.rule.Rule.{Rule}
 use Rattle.sets.specs.declared.set.Set.{Set}
 use Rattle.table.specs.declared.place.Place.{Place}
 use Rattle.theory.specs.Words.{bit_of}
@@ -33,10 +31,6 @@ max_lines = 4096
 abbrev pub closed_head : (letter m : ℕ) → List ℕ
 closed_head letter m = record_line (codes "closed," ++ letter ∷ []) (m ∷ [])
 
--- the head of a page of rules: the number of signals
-abbrev pub rules_head : (m : ℕ) → List ℕ
-rules_head m = record_line (codes "rules") (m ∷ [])
-
 -- the foot of a page
 abbrev pub foot : (lines : ℕ) → List ℕ
 foot lines = record_line (codes "end") (lines ∷ [])
@@ -45,42 +39,26 @@ foot lines = record_line (codes "end") (lines ∷ [])
 abbrev pub signal_names : (text words : List ℕ) → List Place → List (List ℕ)
 signal_names text words places = (table_of text words places).signal_names
 
--- of the names of the signals from i on, those of the signals that pass the test
-abbrev pub names_from : (test : ℕ → Bool) → (i : ℕ) → List (List ℕ) → List (List ℕ)
-names_from test i [] = []
-names_from test i (name ∷ names) = cond (test i) (name ∷ names_from test (i + 1) names) (names_from test (i + 1) names)
+-- of the names of the signals from i on, those of the signals that belong to the set
+abbrev pub chosenFrom : (m word i : ℕ) → List (List ℕ) → List (List ℕ)
+chosenFrom m word i [] = []
+chosenFrom m word i (name ∷ names) = cond (bit_of m i word == 1) (name ∷ chosenFrom m word (i + 1) names) (chosenFrom m word (i + 1) names)
 
 -- the names of the signals that belong to the set of m signals
 abbrev pub chosen : (m word : ℕ) → List (List ℕ) → List (List ℕ)
-chosen m word names = names_from (λ i. nat_eq (bit_of m i word) 1) 0 names
-
--- the names of the signals that the conclusion of a rule has and the premise lacks
-abbrev pub added : (m premise conclusion : ℕ) → List (List ℕ) → List (List ℕ)
-added m premise conclusion names = names_from (λ i. (bit_of m i conclusion == 1) && bit_of m i premise == 0) 0 names
+chosen m word names = chosenFrom m word 0 names
 
 -- each name behind a comma, the byte 44
 abbrev pub name_fields : List (List ℕ) → List ℕ
 name_fields names = flat_map (λ name. 44 ∷ name) names
 
--- the number of the names, and the names, each behind a comma
-abbrev pub counted_names : List (List ℕ) → List ℕ
-counted_names names = 44 ∷ (decimal (length names) ++ name_fields names)
-
 -- the line of a set whose signals have these names: its place, the number of the names, and the names
-abbrev pub set_names_line : (place : ℕ) → List (List ℕ) → List ℕ
-set_names_line place names = codes "set," ++ (decimal place ++ (counted_names names ++ 10 ∷ []))
+abbrev pub namesLine : (place : ℕ) → List (List ℕ) → List ℕ
+namesLine place names = codes "set" ++ (number_fields (place ∷ length names ∷ []) ++ (name_fields names ++ 10 ∷ []))
 
 -- the line of a set, from the names of all signals and the set's word
 abbrev pub set_line_of : (names : List (List ℕ)) → (word place : ℕ) → List ℕ
-set_line_of names word place = set_names_line place (chosen (length names) word names)
-
--- the line of a rule whose premise and added signals have these names
-abbrev pub rule_names_line : (premise more : List (List ℕ)) → List ℕ
-rule_names_line premise more = codes "rule" ++ (counted_names premise ++ (counted_names more ++ 10 ∷ []))
-
--- the line of a rule, from the names of all signals and the words of its sets
-abbrev pub rule_line_of : (names : List (List ℕ)) → (premise conclusion : ℕ) → List ℕ
-rule_line_of names premise conclusion = rule_names_line (chosen (length names) premise names) (added (length names) premise conclusion names)
+set_line_of names word place = namesLine place (chosen (length names) word names)
 
 -- the bytes fit at position `at` before the bytes set aside for the foot
 abbrev pub fits_before : (at : ℕ) → (bytes out : List ℕ) → Bool
@@ -99,35 +77,23 @@ Begun at head out r =
 abbrev pub takes_line : Page → (line out : List ℕ) → Bool
 takes_line page line out = nat_lt page.lines max_lines && fits_before page.at line out
 
--- a line that a page is asked to take: whether what it shows is of as many signals as there are names, and its bytes
-pub record Line : Type 0 where
-  pub same_width : Bool
-  pub bytes : List ℕ
+-- the page takes the line of a set, which is one of as many signals as there are names
+abbrev pub takesSet : (names : List (List ℕ)) → Page → (place : ℕ) → Set → (out : List ℕ) → Bool
+takesSet names page place set out = set.width == length names && takes_line page (set_line_of names set.word place) out
 
--- the line of a set at a place of a listing
-abbrev pub line_of_set : (names : List (List ℕ)) → (place : ℕ) → Set → Line
-line_of_set names place set = record { same_width = (set.width == length names); bytes = set_line_of names set.word place }
+-- what is answered: a set of another width is refused first
+abbrev pub setAnswer : (names : List (List ℕ)) → Page → (place : ℕ) → Set → (out : List ℕ) → Result Unit PageFault
+setAnswer names page place set out =
+    cond (set.width == length names) (cond (takes_line page (set_line_of names set.word place) out) (Ok tt) (Err (fault.Output Full))) (Err (fault.Set OtherWidth))
 
--- the line of a rule
-abbrev pub line_of_rule : (names : List (List ℕ)) → Rule → Line
-line_of_rule names rule = record { same_width = (rule.premise.width == length names); bytes = rule_line_of names rule.premise.word rule.conclusion.word }
-
--- the page takes the line, and what it shows is of the right width
-abbrev pub takes : Page → Line → (out : List ℕ) → Bool
-takes page line out = line.same_width && takes_line page line.bytes out
-
--- what is answered: another width is refused first
-abbrev pub line_answer : Page → Line → (out : List ℕ) → Result Unit PageFault
-line_answer page line out = cond line.same_width (cond (takes_line page line.bytes out) (Ok tt) (Err (fault.Output Full))) (Err (fault.Set OtherWidth))
-
--- the output afterwards: as before where the line is refused
-abbrev pub output_after : Page → Line → (out : List ℕ) → List ℕ
-output_after page line out = cond (takes page line out) (put_at page.at line.bytes out) out
+-- the output afterwards: as before where the set is refused
+abbrev pub output_after : (names : List (List ℕ)) → Page → (place : ℕ) → Set → (out : List ℕ) → List ℕ
+output_after names page place set out = cond (takesSet names page place set out) (put_at page.at (set_line_of names set.word place) out) out
 
 -- the position behind the page afterwards
-abbrev pub at_after : Page → Line → (out : List ℕ) → ℕ
-at_after page line out = cond (takes page line out) (page.at + length line.bytes) page.at
+abbrev pub at_after : (names : List (List ℕ)) → Page → (place : ℕ) → Set → (out : List ℕ) → ℕ
+at_after names page place set out = cond (takesSet names page place set out) (page.at + length (set_line_of names set.word place)) page.at
 
 -- the number of lines afterwards
-abbrev pub lines_after : Page → Line → (out : List ℕ) → ℕ
-lines_after page line out = cond (takes page line out) (page.lines + 1) page.lines
+abbrev pub lines_after : (names : List (List ℕ)) → Page → (place : ℕ) → Set → (out : List ℕ) → ℕ
+lines_after names page place set out = cond (takesSet names page place set out) (page.lines + 1) page.lines

@@ -2,8 +2,6 @@ ghost use Rattle.std.specs.Prelude.{◌≤◌};
 
 mod calls;
 mod closed;
-mod rules;
-mod steps;
 
 // The bytes behind a begun page that are set aside for its foot.
 pub const FOOT_BYTES: usize = 9;

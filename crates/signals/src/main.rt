@@ -1,9 +1,8 @@
-// The program `signals`: a job from standard input, a table text and then query lines, and its pages and answers to standard output.
+// The program `signals`: a table text from standard input, and the page of its closed sets to standard output.
 ghost use Rattle.std.specs.Prelude.{◌≤◌, length, IfOk};
 
 use anyhow::anyhow;
-use job::run::run;
-use sets::rule::Rule;
+use job::closed::list_closed;
 use sets::set::Set;
 use std::io;
 use std::io::{Read, Write};
@@ -18,15 +17,9 @@ const MAX_INPUT: usize = 65_001;
 // The bytes of the output.
 const MAX_OUTPUT: usize = 65_536;
 
-// The places for rules.
-const RULE_PLACES: usize = 1024;
-
 fn main(rt: HostRuntime) -> anyhow::Result<()> {
     let Ok(empty) = Set::new(0, 0) else {
         return Err(anyhow!("there is no empty set"));
-    };
-    let Ok(rule) = Rule::new(empty, empty) else {
-        return Err(anyhow!("there is no empty rule"));
     };
     let mut input = [0; MAX_INPUT];
     let taken = read_input(&rt, &mut input)?;
@@ -36,14 +29,12 @@ fn main(rt: HostRuntime) -> anyhow::Result<()> {
         length: 0,
     }; MAX_NAMES];
     let mut sets = [empty; MAX_ENTRIES];
-    let mut rules = [rule; RULE_PLACES];
     let mut output = [0; MAX_OUTPUT];
-    match run(
+    match list_closed(
         &input[0..taken],
         &mut words,
         &mut places,
         &mut sets,
-        &mut rules,
         &mut output,
     ) {
         Ok(count) => {

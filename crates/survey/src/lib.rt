@@ -2,7 +2,7 @@
 
 pub mod call;
 pub mod fill;
-pub mod next;
+mod next;
 pub mod run;
 pub mod state;
 pub mod survey;

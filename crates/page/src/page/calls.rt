@@ -1,8 +1,8 @@
-ghost use Rattle.std.specs.Prelude.{◌≡◌, ◌+◌, ◌≤◌, length, Ok};
+ghost use Rattle.std.specs.Prelude.{◌≡◌, ◌+◌, ◌≤◌, ◌&&◌, length, Ok, nat_le, nat_lt};
 ghost use Rattle.output.specs.Puts.{after_put, put_answer_of};
-ghost use Rattle.page.specs.Pages.{foot, reserve};
+ghost use Rattle.page.specs.Pages.{foot, max_lines, reserve};
 
-use super::Page;
+use super::{FOOT_BYTES, MAX_LINES, Page};
 use output::fault::OutputFault;
 use output::record::put_record;
 
@@ -21,6 +21,16 @@ impl Page {
         self.lines
     }
 
+    // Tells whether the page takes a line of so many bytes, which leaves the bytes of the foot in an output of `room` bytes.
+    pub(super) fn takes(&self, bytes: usize, room: usize) -> bool
+        ensures answer { result ≡ (nat_lt self.now.lines max_lines && nat_le (self.now.at + bytes + reserve) room) }
+    {
+        let Some(left) = room.checked_sub(self.at) else {
+            return false;
+        };
+        self.lines < MAX_LINES && left >= FOOT_BYTES && left - FOOT_BYTES >= bytes
+    }
+
     // Ends the page with its foot, and answers the position behind it; an output without room for it, which is never one that the page was begun on, stays as before.
     pub fn foot(self, out: &mut [u8]) -> Result<usize, OutputFault>
         ensures answer { result ≡ put_answer_of self.at (foot self.lines) out.old }
@@ -28,14 +38,6 @@ impl Page {
         ensures granted { self.at + reserve ≤ length out.old → result ≡ Ok (self.at + length (foot self.lines)) }
     {
         let Page { at, lines } = self;
-        put_foot(out, at, lines)
+        put_record(out, at, b"end", &[lines])
     }
-}
-
-// Puts the foot of a page of so many lines.
-fn put_foot(out: &mut [u8], at: usize, lines: usize) -> Result<usize, OutputFault>
-    ensures answer { result ≡ put_answer_of at (foot lines) out.old }
-    ensures output { out.new ≡ after_put at (foot lines) out.old }
-{
-    put_record(out, at, b"end", &[lines])
 }

@@ -1,17 +1,19 @@
 ghost use Rattle.std.specs.Prelude.{◌≡◌, ◌+◌, ◌-◌, ◌≤◌, length};
-ghost use Rattle.page.specs.Pages.{Begun, at_after, closed_head, line_answer, line_of_set, lines_after, output_after, put_before, reserve, signal_names};
+ghost use Rattle.page.specs.Pages.{Begun, at_after, closed_head, lines_after, output_after, put_before, reserve, setAnswer, signal_names};
 
-use super::Page;
+use super::{FOOT_BYTES, Page};
 use crate::fault::PageFault;
-use crate::lines::{check_width, count_names, put_set};
+use crate::lines::{count_names, put_set};
 use operators::operator::Operator;
 use output::fault::OutputFault;
 use output::number::digits;
+use output::record::put_record;
+use sets::fault::SetFault;
 use sets::set::Set;
 use view::table_view::TableView;
 
-// The bytes of a set's line besides its place and its names with their number.
-const SET_BYTES: usize = 5;
+// The bytes of a set's line besides its numbers and its names.
+const SET_BYTES: usize = 6;
 
 impl Page {
     // Begins a page of the closed sets of an operator with its head at position `at`; where the head does not fit before the bytes of the foot, the output stays as before.
@@ -26,7 +28,9 @@ impl Page {
     {
         let mut word = *b"closed,?";
         word[7] = operator.mark();
-        Page::begin(out, at, &word, view.signals())
+        let room = out.len().saturating_sub(FOOT_BYTES);
+        let end = put_record(&mut out[..room], at, &word, &[view.signals()])?;
+        Ok(Page { at: end, lines: 0 })
     }
 
     // Adds the line of a set at a place of a listing; a set of another width than the view's, and a line that does not fit, leave page and output as before.
@@ -37,17 +41,22 @@ impl Page {
         place: usize,
         set: Set,
     ) -> Result<(), PageFault>
-        ensures answer { result ≡ line_answer self.old (line_of_set (signal_names view.now.text.now view.now.words.now view.now.places.now) place set) out.old }
-        ensures output { out.new ≡ output_after self.old (line_of_set (signal_names view.now.text.now view.now.words.now view.now.places.now) place set) out.old }
-        ensures at { self.new.at ≡ at_after self.old (line_of_set (signal_names view.now.text.now view.now.words.now view.now.places.now) place set) out.old }
-        ensures lines { self.new.lines ≡ lines_after self.old (line_of_set (signal_names view.now.text.now view.now.words.now view.now.places.now) place set) out.old }
+        ensures answer { result ≡ setAnswer (signal_names view.now.text.now view.now.words.now view.now.places.now) self.old place set out.old }
+        ensures output { out.new ≡ output_after (signal_names view.now.text.now view.now.words.now view.now.places.now) self.old place set out.old }
+        ensures at { self.new.at ≡ at_after (signal_names view.now.text.now view.now.words.now view.now.places.now) self.old place set out.old }
+        ensures lines { self.new.lines ≡ lines_after (signal_names view.now.text.now view.now.words.now view.now.places.now) self.old place set out.old }
         ensures reserved { self.old.at + reserve ≤ length out.old → self.new.at + reserve ≤ length out.new }
     {
-        check_width(view, set)?;
+        if set.width() != view.signals() {
+            return Err(PageFault::Set(SetFault::OtherWidth));
+        }
         let (count, fields) = count_names(view, set);
-        self.check_room(SET_BYTES + digits(place) + fields, out.len())?;
-        let end = put_set(out, self.at, view, place, set, count)?;
-        self.pass(end);
+        let bytes = SET_BYTES + digits(place) + digits(count) + fields;
+        if !self.takes(bytes, out.len()) {
+            return Err(PageFault::Output(OutputFault::Full));
+        }
+        self.at = put_set(out, self.at, view, place, set, count)?;
+        self.lines += 1;
         Ok(())
     }
 }

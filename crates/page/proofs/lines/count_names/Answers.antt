@@ -1,5 +1,5 @@
-use Rattle.std.proofs.Common.{◌≡◌, ◌<◌, ◌≤◌, [], length, get_or, decimal, ap, ◌∙◌, arith, length-append}
-use Rattle.page.specs.Pages.{chosen, name_fields, signal_names}
+use Rattle.std.proofs.Common.{◌≡◌, ◌<◌, ◌≤◌, [], length, get_or, ap, arith}
+use Rattle.page.specs.Pages.{signal_names}
 use Rattle.page.proofs.Chosen.{counted_all, counted_more, counted_same, lacks, name_shown, name_small}
 use Rattle.page.proofs.lines.count_names.Goals as goal
 
@@ -26,10 +26,4 @@ pub returns : goal.returns
 returns c =
     let names = signal_names c.args.view.now.text.now c.args.view.now.words.now c.args.view.now.places.now in
     let all = counted_all c.args.set names c.loop-signal.signal c.loop-signal.count c.loop-signal.bytes (omega arith) c.loop-signal.invariant in
-    let some = chosen c.args.set.width c.args.set.word names in
-    let digits : c.digits.result ≡ length (decimal (length some)) = c.digits.ensures.count ∙ ap (λ n. length (decimal n)) all.0 in
-    record {
-      names = all.0;
-      bytes = omega (arith, all.1, digits, length-append (decimal (length some)) (name_fields some));
-      short = omega (arith, c.args.set.narrow, c.loop-signal.invariant.short, c.digits.ensures.few);
-    }
+    record { names = all.0; fields = all.1; short = omega (arith, c.args.set.narrow, c.loop-signal.invariant.short) }

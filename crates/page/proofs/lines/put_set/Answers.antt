@@ -1,38 +1,41 @@
-use Rattle.std.proofs.Common.{[], ◌∷◌, ◌++◌, codes, decimal}
-use Rattle.page.specs.Pages.{chosen, counted_names, set_names_line, signal_names}
-use Rattle.page.proofs.Pieces.{Writing, start, piece_room, piece_break, piece_more, piece_put, last_put}
+use Rattle.std.proofs.Common.{◌≡◌, ◌+◌, [], ◌∷◌, ◌++◌, length, Ok, ap, ◌∙◌}
+use Rattle.output.specs.Puts.{put_at}
+use Rattle.output.proofs.Writing.{Wrote, wrote_more, wrote_room, wrote_answer, wrote_output}
+use Rattle.page.specs.Pages.{chosen, name_fields, signal_names}
+use Rattle.page.proofs.SetLines.{toNames, line-is, room_line, room_names, room_start}
 use Rattle.page.proofs.lines.put_set.Goals as goal
 
-pub returns-in-err-at-2 : goal.returns-in-err-at-2
-returns-in-err-at-2 c =
-    let names = chosen c.args.set.width c.args.set.word (signal_names c.args.view.now.text.now c.args.view.now.words.now c.args.view.now.places.now) in
-    let w1 : Writing c.args.at (set_names_line c.args.place names) (decimal c.args.place ++ (counted_names names ++ 10 ∷ [])) c.args.out.now c.put.new.out c.in-ok-at.at =
-    piece_put c.args.at (set_names_line c.args.place names) (codes "set,") (decimal c.args.place ++ (counted_names names ++ 10 ∷ [])) c.args.out.now c.args.out.now c.args.at (start c.args.at (set_names_line c.args.place names) c.args.out.now c.requires.room) c.in-ok-at.at c.put.new.out
-    c.in-ok-at.ensures.answer c.in-ok-at.ensures.output in
-    piece_break c.args.at (set_names_line c.args.place names) (decimal c.args.place) (counted_names names ++ 10 ∷ []) c.args.out.now c.put.new.out c.in-ok-at.at w1 _ c.in-err-at-2.ensures.answer
+pub put-numbers-requires : goal.put-numbers-requires
+put-numbers-requires c = room_start c.args.place c.args.count _ c.requires.counted c.args.at _ c.requires.room
 
-pub put-counted-requires : goal.put-counted-requires
-put-counted-requires c =
+pub put-names-requires : goal.put-names-requires
+put-names-requires c =
     let names = chosen c.args.set.width c.args.set.word (signal_names c.args.view.now.text.now c.args.view.now.words.now c.args.view.now.places.now) in
-    let w1 : Writing c.args.at (set_names_line c.args.place names) (decimal c.args.place ++ (counted_names names ++ 10 ∷ [])) c.args.out.now c.put.new.out c.in-ok-at.at =
-    piece_put c.args.at (set_names_line c.args.place names) (codes "set,") (decimal c.args.place ++ (counted_names names ++ 10 ∷ [])) c.args.out.now c.args.out.now c.args.at (start c.args.at (set_names_line c.args.place names) c.args.out.now c.requires.room) c.in-ok-at.at c.put.new.out
-    c.in-ok-at.ensures.answer c.in-ok-at.ensures.output in
-    let w2 : Writing c.args.at (set_names_line c.args.place names) (counted_names names ++ 10 ∷ []) c.args.out.now c.put-number.new.out c.in-ok-at-2.at =
-    piece_put c.args.at (set_names_line c.args.place names) (decimal c.args.place) (counted_names names ++ 10 ∷ []) c.args.out.now c.put.new.out c.in-ok-at.at w1 c.in-ok-at-2.at c.put-number.new.out
-    c.in-ok-at-2.ensures.answer c.in-ok-at-2.ensures.output in
-    record { whole = c.requires.whole; counted = c.requires.counted; room = piece_room c.args.at (set_names_line c.args.place names) (counted_names names) (10 ∷ []) c.args.out.now c.put-number.new.out c.in-ok-at-2.at w2 }
+    let start = toNames c.args.place c.args.count in
+    let granted = c.in-ok-at.ensures.answer in
+    let next : c.in-ok-at.at ≡ c.args.at + length start = cc in
+    let w1 : Wrote c.args.at start c.args.out.now c.put-numbers.new.out c.in-ok-at.at =
+    record { whole = c.put-numbers.ensures.output; behind = next; room = room_start c.args.place c.args.count names c.requires.counted c.args.at _ c.requires.room } in
+    record {
+      whole = c.requires.whole;
+      room = wrote_room c.args.at start (name_fields names) _ _ _ w1 (room_names c.args.place c.args.count names c.requires.counted c.args.at _ c.requires.room);
+    }
 
 pub returns : goal.returns
 returns c =
     let names = chosen c.args.set.width c.args.set.word (signal_names c.args.view.now.text.now c.args.view.now.words.now c.args.view.now.places.now) in
-    let w1 : Writing c.args.at (set_names_line c.args.place names) (decimal c.args.place ++ (counted_names names ++ 10 ∷ [])) c.args.out.now c.put.new.out c.in-ok-at.at =
-    piece_put c.args.at (set_names_line c.args.place names) (codes "set,") (decimal c.args.place ++ (counted_names names ++ 10 ∷ [])) c.args.out.now c.args.out.now c.args.at (start c.args.at (set_names_line c.args.place names) c.args.out.now c.requires.room) c.in-ok-at.at c.put.new.out
-    c.in-ok-at.ensures.answer c.in-ok-at.ensures.output in
-    let w2 : Writing c.args.at (set_names_line c.args.place names) (counted_names names ++ 10 ∷ []) c.args.out.now c.put-number.new.out c.in-ok-at-2.at =
-    piece_put c.args.at (set_names_line c.args.place names) (decimal c.args.place) (counted_names names ++ 10 ∷ []) c.args.out.now c.put.new.out c.in-ok-at.at w1 c.in-ok-at-2.at c.put-number.new.out
-    c.in-ok-at-2.ensures.answer c.in-ok-at-2.ensures.output in
-    let w3 : Writing c.args.at (set_names_line c.args.place names) (10 ∷ []) c.args.out.now c.put-counted.new.out c.in-ok-at-3.at =
-    piece_more c.args.at (set_names_line c.args.place names) (counted_names names) (10 ∷ []) c.args.out.now c.put-number.new.out c.in-ok-at-2.at w2 c.in-ok-at-3.at c.put-counted.new.out
-    c.in-ok-at-3.ensures.answer c.put-counted.ensures.output in
-    let end = last_put c.args.at (set_names_line c.args.place names) (10 ∷ []) c.args.out.now c.put-counted.new.out c.in-ok-at-3.at w3 c.put-2.result c.put-2.new.out c.put-2.ensures.answer c.put-2.ensures.output in
-    record { answer = end.answer; output = end.output }
+    let start = toNames c.args.place c.args.count in
+    let granted = c.in-ok-at.ensures.answer in
+    let next : c.in-ok-at.at ≡ c.args.at + length start = cc in
+    let w1 : Wrote c.args.at start c.args.out.now c.put-numbers.new.out c.in-ok-at.at =
+    record { whole = c.put-numbers.ensures.output; behind = next; room = room_start c.args.place c.args.count names c.requires.counted c.args.at _ c.requires.room } in
+    let more = c.in-ok-at-2.ensures.answer in
+    let last : c.in-ok-at-2.at ≡ c.in-ok-at.at + length (name_fields names) = cc in
+    let w2 : Wrote c.args.at (start ++ name_fields names) c.args.out.now c.put-names.new.out c.in-ok-at-2.at =
+    wrote_more c.args.at start (name_fields names) _ _ _ _ _ w1 (room_names c.args.place c.args.count names c.requires.counted c.args.at _ c.requires.room) last c.put-names.ensures.output in
+    let room = room_line c.args.place c.args.count names c.requires.counted c.args.at _ c.requires.room in
+    let same = line-is c.args.place c.args.count names c.requires.counted in
+    record {
+      answer = wrote_answer c.args.at (start ++ name_fields names) (10 ∷ []) _ _ _ _ w2 room c.put.ensures.answer ∙ ap (λ xs. Ok (c.args.at + length xs)) same;
+      output = wrote_output c.args.at (start ++ name_fields names) (10 ∷ []) _ _ _ _ w2 room c.put.ensures.output ∙ ap (λ xs. put_at c.args.at xs c.args.out.now) same;
+    }

@@ -1,24 +1,24 @@
+use Rattle.std.proofs.Common.{◌≡◌, ap, ◌∙◌, arith}
 use Rattle.operators.specs.TableClosure.{signals_of}
-use Rattle.operators.proofs.Rows.{told_below, told_lt, told_word, shared_at}
+use Rattle.theory.specs.Rows.{common}
+use Rattle.theory.proofs.Rows.{common_lt}
+use Rattle.operators.proofs.Rows.{told-common, told-width, shared}
 use Rattle.operators.proofs.table_closure.TableClosureOperator.closure.Goals as goal
-
-pub common-word-requires : goal.common-word-requires
-common-word-requires c = told_below c.args.set c.word.ensures.value (c.spans.ensures.told.0 c.if-not-spans.false)
 
 pub with-word-requires : goal.with-word-requires
 with-word-requires c =
-    told_lt c.args.self.now.view.words.now c.word.result c.common-word.ensures.common (c.spans.ensures.told.0 c.if-not-spans.false)
+    let e = told-common c.signals_in_common.ensures.common c.width-2.ensures.value c.words.ensures.words c.word.ensures.value in
+    omega (arith, common_lt c.args.set.width c.args.self.now.view.words.now c.args.set.word)
 
 pub returns : goal.returns
 returns c =
-    let view = c.args.self.now.view in
-    let rows = view.words.now in
-    let signals = signals_of rows view.places.now in
-    let same =
-    told_word signals rows c.word.result c.args.set.word c.with-word.ensures.word c.common-word.ensures.common c.word.ensures.value in
+    let rows = c.args.self.now.view.words.now in
+    let same : c.with-word.result.word ≡ common c.args.set.width rows c.args.set.word =
+    c.with-word.ensures.word
+    ∙ told-common c.signals_in_common.ensures.common c.width-2.ensures.value c.words.ensures.words c.word.ensures.value in
     record {
       width = c.with-word.ensures.width;
-      closed = λ _. same;
-      other = λ n. absurd (n (c.spans.ensures.told.0 c.if-not-spans.false));
-      signals = shared_at signals rows c.args.set.word same;
+      closed = λ e. same ∙ ap (λ m. common m rows c.args.set.word) e;
+      other = λ n. absurd (n (told-width (signals_of c.args.self.now.view.words.now c.args.self.now.view.places.now) c.width.ensures.value c.if-width-signals.false c.signals.ensures.count));
+      signals = λ _. shared c.args.set.width rows c.args.set.word c.with-word.result.word same;
     }

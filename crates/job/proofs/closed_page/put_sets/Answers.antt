@@ -1,0 +1,40 @@
+use Rattle.std.proofs.Common.{◌≡◌, Err, ap, ◌∙◌, arith, rules}
+use Rattle.std.proofs.lemmas.Result.{err_from_is_err_and}
+use Rattle.page.specs.Pages.{signal_names}
+use Rattle.job.proofs.SetLines.{listing_start, listing_more, listing_full, listing_all}
+use Rattle.job.proofs.closed_page.put_sets.Goals as goal
+
+pub loop-set-init : goal.loop-set-init
+loop-set-init c =
+    listing_start (signal_names c.args.view.now.text.now c.args.view.now.words.now c.args.view.now.places.now) c.args.page.now.at c.args.page.now.lines c.args.sets.now c.args.out.now c.requires.room
+
+pub loop-set-preserved : goal.loop-set-preserved
+loop-set-preserved c =
+    let names = signal_names c.args.view.now.text.now c.args.view.now.words.now c.args.view.now.places.now in
+    listing_more names c.args.page.now.at c.args.page.now.lines c.args.sets.now c.args.out.now c.loop-set.out c.loop-set.set-index c.loop-set.page c.lines-place.result
+    c.set-item.result c.requires.widths c.requires.few c.loop-set-test.true c.set-item.is c.lines-place.ensures.value c.loop-set.invariant c.set-line.new.out c.set-line.new.self.at
+    c.set-line.new.self.lines c.in-ok-set-line.ensures.answer c.set-line.ensures.output c.set-line.ensures.at c.set-line.ensures.lines
+    (c.set-line.ensures.reserved c.loop-set.invariant.free)
+
+pub returns-in-err-set-line : goal.returns-in-err-set-line
+returns-in-err-set-line c =
+    let names = signal_names c.args.view.now.text.now c.args.view.now.words.now c.args.view.now.places.now in
+    let p = err_from_is_err_and c.from-residual.result c.from-residual.ensures.1 in
+    let same : c.from-residual.result ≡ Err c.in-err-set-line.field-0.0 = p.1 ∙ ap Err p.2 in
+    record {
+      answer = same
+          ∙ listing_full names c.args.page.now.at c.args.page.now.lines c.args.sets.now c.args.out.now c.loop-set.out c.loop-set.set-index c.loop-set.page c.lines-place.result
+          c.set-item.result c.requires.widths c.requires.few c.loop-set-test.true c.set-item.is c.lines-place.ensures.value c.loop-set.invariant c.in-err-set-line.field-0.0
+          c.in-err-set-line.ensures.answer;
+      at = search rules;
+      lines = search rules;
+      output = search rules;
+      reserved = c.set-line.ensures.reserved c.loop-set.invariant.free;
+    }
+
+pub returns : goal.returns
+returns c =
+    let names = signal_names c.args.view.now.text.now c.args.view.now.words.now c.args.view.now.places.now in
+    let all = listing_all names c.args.page.now.at c.args.page.now.lines c.args.sets.now c.args.out.now c.loop-set.out c.loop-set.set-index c.loop-set.page.at
+    c.loop-set.page.lines (omega arith) c.loop-set.invariant in
+    record { answer = all.answer; at = all.behind; lines = all.number; output = all.output; reserved = c.loop-set.invariant.free }
