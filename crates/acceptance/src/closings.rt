@@ -1,12 +1,12 @@
 use job::closed::list_closed;
-use job::fault::JobFault;
-use output::fault::OutputFault;
-use page::fault::PageFault;
+use job::faults::JobFault;
+use output::faults::OutputFault;
+use page::faults::PageFault;
 use sets::set::Set;
 use std::test::Fail;
-use table::fault::TableFault;
+use table::faults::TableFault;
 use table::place::Place;
-use tray::fault::TrayFault;
+use tray::faults::TrayFault;
 
 const TEXT: &[u8] = b"B\n\n2\n2\n\na\nb\np\nq\n..\nXX\n";
 

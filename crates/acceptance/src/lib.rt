@@ -1,4 +1,7 @@
 //! Tests of reading, viewing, writing and reporting a table, and of listing its closed sets.
+
+#![tactic(auto)]
+
 #[cfg(test)]
 mod closings;
 #[cfg(test)]

@@ -1,7 +1,7 @@
 use crate::outcome::outcome_of;
 use fault::Fault;
 use std::process::Abort;
-use table::fault::TableFault;
+use table::faults::TableFault;
 use table::place::Place;
 use table::read::{Reading, read};
 

@@ -1,8 +1,8 @@
 use fault::Fault;
-use job::fault::JobFault;
+use job::faults::JobFault;
 use job::report::report;
-use output::fault::OutputFault;
-use table::fault::TableFault;
+use output::faults::OutputFault;
+use table::faults::TableFault;
 use table::place::Place;
 
 const TEXT: &[u8] = b"B\n\n1\n1\n\nab\ncd\nX\nbytes behind";

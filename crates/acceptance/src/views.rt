@@ -1,4 +1,4 @@
-use output::fault::OutputFault;
+use output::faults::OutputFault;
 use std::process::Abort;
 use table::place::Place;
 use view::table_view::TableView;

@@ -6,25 +6,25 @@ use Rattle.std.proofs.lemmas.List.{length-map, take_all}
 use Rattle.std.proofs.lemmas.Bool.{cases_Bool, cond-true, cond-false, le-leb, lt-leb, le-ltb}
 use Rattle.fault.specs.Layers.{Near}
 use Rattle.operators.specs.TableClosure.{signals_of}
-use Rattle.output.specs.declared.fault.OutputFault.TheVariants.{Full}
+use Rattle.output.specs.declared.faults.OutputFault.TheVariants.{Full}
 use Rattle.output.specs.Puts.{put_at}
 use Rattle.page.specs.Pages.{reserve, signal_names}
-use Rattle.page.specs.declared.fault.PageFault.{PageFault}
-use Rattle.page.specs.declared.fault.PageFault.TheVariants.{Output as OfOutput}
+use Rattle.page.specs.declared.faults.PageFault.{PageFault}
+use Rattle.page.specs.declared.faults.PageFault.TheVariants.{Output as OfOutput}
 use Rattle.sets.specs.declared.set.Set.{Set}
 use Rattle.survey.specs.Fills.{Filled, words_of}
 use Rattle.table.specs.Faults as tables
 use Rattle.table.specs.Reading.{Contents, answer_of, read_of}
-use Rattle.table.specs.declared.fault.TableFault.{TableFault}
+use Rattle.table.specs.declared.faults.TableFault.{TableFault}
 use Rattle.table.specs.declared.place.Place.{Place}
 use Rattle.table.specs.declared.read.Reading.{Reading}
 use Rattle.theory.specs.Closures.{closed_below}
 use Rattle.theory.specs.Rows.{common}
-use Rattle.tray.specs.declared.fault.TrayFault.{TrayFault}
-use Rattle.tray.specs.declared.fault.TrayFault.TheVariants.{Full as NoPlace}
+use Rattle.tray.specs.declared.faults.TrayFault.{TrayFault}
+use Rattle.tray.specs.declared.faults.TrayFault.TheVariants.{Full as NoPlace}
 use Rattle.tray.specs.Tray.{max_entries}
-use Rattle.job.specs.declared.fault.JobFault.{JobFault}
-use Rattle.job.specs.declared.fault.JobFault.TheVariants.{Table, Tray, Page}
+use Rattle.job.specs.declared.faults.JobFault.{JobFault}
+use Rattle.job.specs.declared.faults.JobFault.TheVariants.{Table, Tray, Page}
 use Rattle.job.specs.Closed.{SetsAfter, closedJobOf, closed_words, body_of, page_of, paged, in_job, listed, listedParts}
 use Rattle.job.specs.Reports.{count_of, Reports, Lined}
 use Rattle.job.proofs.Reporting.{Granted, refused_reading}

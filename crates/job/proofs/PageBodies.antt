@@ -5,12 +5,12 @@ use Rattle.std.specs.List.{AllByRecursion}
 use Rattle.std.proofs.lemmas.List.{length-drop, length-map}
 use Rattle.std.proofs.lemmas.Bool.{cases_Bool, cond-false, cond-true, le-leb, leb-false, leb-true, lt-leb}
 use Rattle.operators.specs.TableClosure.{signals_of}
-use Rattle.output.specs.declared.fault.OutputFault.{OutputFault}
-use Rattle.output.specs.declared.fault.OutputFault.TheVariants.{Full}
+use Rattle.output.specs.declared.faults.OutputFault.{OutputFault}
+use Rattle.output.specs.declared.faults.OutputFault.TheVariants.{Full}
 use Rattle.output.specs.Puts.{after_put, put_answer_of, put_at}
 use Rattle.output.proofs.Writing.{Wrote, length_wrote, wrote_more, wrote_put}
-use Rattle.page.specs.declared.fault.PageFault.{PageFault}
-use Rattle.page.specs.declared.fault.PageFault.TheVariants.{Output as OfOutput}
+use Rattle.page.specs.declared.faults.PageFault.{PageFault}
+use Rattle.page.specs.declared.faults.PageFault.TheVariants.{Output as OfOutput}
 use Rattle.page.specs.Pages.{fits_before, foot, put_before, reserve, signal_names}
 use Rattle.sets.specs.declared.set.Set.{Set}
 use Rattle.survey.specs.Fills.{words_of}

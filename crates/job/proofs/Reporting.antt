@@ -7,29 +7,29 @@ use Rattle.fault.specs.declared.Fault.{Fault}
 use Rattle.fault.specs.Layers.{Near}
 use Rattle.output.specs.Puts.{put_at, after_put, put_answer_of}
 use Rattle.output.proofs.Puts.{answer_fits, granted_fits, output_fits}
-use Rattle.table.specs.declared.fault.TableFault.{TableFault}
-use Rattle.table.specs.declared.fault.TableFault.TheVariants.{Field, TooLong, NotB, NotEmpty, TooMany, NoRoom, NotName, CellCount, NotCell}
+use Rattle.table.specs.declared.faults.TableFault.{TableFault}
+use Rattle.table.specs.declared.faults.TableFault.TheVariants.{Field, TooLong, NotB, NotEmpty, TooMany, NoRoom, NotName, CellCount, NotCell}
 use Rattle.table.specs.Faults as tables
 use Rattle.text.specs.Faults as fields
-use Rattle.text.specs.declared.fault.FieldFault.{FieldFault}
-use Rattle.text.specs.declared.fault.FieldFault.TheVariants.{NoLineFeed, NoNumber}
-use Rattle.output.specs.declared.fault.OutputFault.TheVariants.{Full}
+use Rattle.text.specs.declared.faults.FieldFault.{FieldFault}
+use Rattle.text.specs.declared.faults.FieldFault.TheVariants.{NoLineFeed, NoNumber}
+use Rattle.output.specs.declared.faults.OutputFault.TheVariants.{Full}
 use Rattle.table.specs.declared.read.Reading.{Reading}
 use Rattle.table.specs.Reading.{Contents, read_of, answer_of, words_after, places_after}
 use Rattle.table.proofs.Agreement.{places_long}
 use Rattle.view.specs.Views.{fit}
 use Rattle.view.proofs.OwnText.{own_fit, own_text}
-use Rattle.output.specs.declared.fault.OutputFault.{OutputFault}
+use Rattle.output.specs.declared.faults.OutputFault.{OutputFault}
 use Rattle.output.proofs.Sequels.{refused_long, same_fault}
 use Rattle.std.proofs.lemmas.Bool.{cond-true, cond-false, le-leb, lt-leb, le-ltb}
 use Rattle.output.specs.Records.{record_line}
 use Rattle.table.specs.declared.place.Place.{Place}
 use Rattle.view.specs.Texts.{shown_text}
-use Rattle.job.specs.declared.fault.JobFault.{JobFault}
-use Rattle.job.specs.declared.fault.JobFault.TheVariants.{SmallOutput, Table, Output, Tray, Page}
-use Rattle.page.specs.declared.fault.PageFault.TheVariants.{Set as OfSet, Output as OfOutput}
-use Rattle.sets.specs.declared.fault.SetFault.TheVariants.{Unfit, NotInside, OtherWidth, Ended}
-use Rattle.tray.specs.declared.fault.TrayFault.TheVariants.{Full as NoPlace}
+use Rattle.job.specs.declared.faults.JobFault.{JobFault}
+use Rattle.job.specs.declared.faults.JobFault.TheVariants.{SmallOutput, Table, Output, Tray, Page}
+use Rattle.page.specs.declared.faults.PageFault.TheVariants.{Set as OfSet, Output as OfOutput}
+use Rattle.sets.specs.declared.faults.SetFault.TheVariants.{Unfit, NotInside, OtherWidth, Ended}
+use Rattle.tray.specs.declared.faults.TrayFault.TheVariants.{Full as NoPlace}
 use Rattle.job.specs.Faults.{fault_of}
 use Rattle.job.specs.Reports.{fault_line, read_line, reported, fitted, report_text, job_of, count_of, padded, refused_output, output_after, Lined, Reports}
 

@@ -3,11 +3,11 @@ use Rattle.std.proofs.Common.{◌≡◌, ℕ, zero, suc, ◌+◌, ◌<◌, ◌�
 use Rattle.std.specs.List.{AllByRecursion}
 use Rattle.std.proofs.lemmas.List.{take_more, take_all, map-append, length-map, length-take-le, take-append-drop}
 use Rattle.std.proofs.lemmas.Bool.{and_from, and_right, cases_Bool, cond-false, cond-true, eq-eqb, le-leb, leb-false, leb-true, lt-leb, lt-ltb}
-use Rattle.output.specs.declared.fault.OutputFault.TheVariants.{Full}
+use Rattle.output.specs.declared.faults.OutputFault.TheVariants.{Full}
 use Rattle.output.specs.Puts.{put_at}
 use Rattle.output.proofs.Writing.{Wrote, length_wrote, wrote_none, wrote_more}
-use Rattle.page.specs.declared.fault.PageFault.{PageFault}
-use Rattle.page.specs.declared.fault.PageFault.TheVariants.{Output as OfOutput}
+use Rattle.page.specs.declared.faults.PageFault.{PageFault}
+use Rattle.page.specs.declared.faults.PageFault.TheVariants.{Output as OfOutput}
 use Rattle.page.specs.declared.page.Page.{Page}
 use Rattle.page.specs.Pages.{at_after, fits_before, lines_after, max_lines, output_after, reserve, setAnswer, set_line_of, takes_line, takesSet}
 use Rattle.sets.specs.declared.set.Set.{Set}

@@ -1,21 +1,21 @@
 -- What a job that lists the closed sets of a table puts into its output.
 use Rattle.std.specs.Prelude.{◌≡◌, ℕ, ◌+◌, ◌^◌, min, cond, List, [], ◌∷◌, ◌++◌, length, Ok, Err, Result, nat_le, nat_lt}
 use Rattle.operators.specs.TableClosure.{signals_of}
-use Rattle.output.specs.declared.fault.OutputFault.TheVariants.{Full}
+use Rattle.output.specs.declared.faults.OutputFault.TheVariants.{Full}
 use Rattle.page.specs.Pages.{closed_head, set_line_of, foot, reserve, signal_names}
-use Rattle.page.specs.declared.fault.PageFault.{PageFault}
-use Rattle.page.specs.declared.fault.PageFault.TheVariants.{Output as OfOutput}
+use Rattle.page.specs.declared.faults.PageFault.{PageFault}
+use Rattle.page.specs.declared.faults.PageFault.TheVariants.{Output as OfOutput}
 use Rattle.sets.specs.declared.set.Set.{Set}
 use Rattle.survey.specs.Fills.{Filled}
-use Rattle.table.specs.declared.fault.TableFault.{TableFault}
+use Rattle.table.specs.declared.faults.TableFault.{TableFault}
 use Rattle.table.specs.declared.place.Place.{Place}
 use Rattle.table.specs.Reading.{Contents, read_of}
 use Rattle.theory.specs.Closures.{closed_below}
 use Rattle.theory.specs.Rows.{common}
-use Rattle.tray.specs.declared.fault.TrayFault.TheVariants.{Full as NoPlace}
+use Rattle.tray.specs.declared.faults.TrayFault.TheVariants.{Full as NoPlace}
 use Rattle.tray.specs.Tray.{max_entries}
-use Rattle.job.specs.declared.fault.JobFault.{JobFault}
-use Rattle.job.specs.declared.fault.JobFault.TheVariants.{SmallOutput, Table, Tray, Page}
+use Rattle.job.specs.declared.faults.JobFault.{JobFault}
+use Rattle.job.specs.declared.faults.JobFault.TheVariants.{SmallOutput, Table, Tray, Page}
 
 -- the closed sets of a table, as words in the lectic order
 abbrev pub closed_words : List ℕ → List Place → List ℕ

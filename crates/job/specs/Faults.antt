@@ -5,8 +5,8 @@ use Rattle.output.specs.Faults as outputs
 use Rattle.page.specs.Faults as pages
 use Rattle.table.specs.Faults as tables
 use Rattle.tray.specs.Fault as trays
-use Rattle.job.specs.declared.fault.JobFault.{JobFault}
-use Rattle.job.specs.declared.fault.JobFault.TheVariants.{SmallOutput, Table, Output, Tray, Page}
+use Rattle.job.specs.declared.faults.JobFault.{JobFault}
+use Rattle.job.specs.declared.faults.JobFault.TheVariants.{SmallOutput, Table, Output, Tray, Page}
 
 abbrev pub fault_of : JobFault → Fault
 fault_of SmallOutput = in_jobs 71

@@ -1,16 +1,16 @@
 -- What a job puts into its output.
 use Rattle.std.specs.Prelude.{◌≡◌, ℕ, ◌-◌, cond, List, [], ◌∷◌, ◌++◌, length, take, replicate, Ok, Err, codes, Result, nat_le, nat_lt}
 use Rattle.fault.specs.declared.Fault.{Fault}
-use Rattle.output.specs.declared.fault.OutputFault.TheVariants.{Full}
+use Rattle.output.specs.declared.faults.OutputFault.TheVariants.{Full}
 use Rattle.fault.specs.Layers.{Near}
 use Rattle.output.specs.Puts.{put_at}
 use Rattle.output.specs.Records.{record_line}
-use Rattle.table.specs.declared.fault.TableFault.{TableFault}
+use Rattle.table.specs.declared.faults.TableFault.{TableFault}
 use Rattle.table.specs.declared.place.Place.{Place}
 use Rattle.table.specs.Reading.{Contents, read_of, words_after, places_after}
 use Rattle.view.specs.Texts.{shown_text}
-use Rattle.job.specs.declared.fault.JobFault.{JobFault}
-use Rattle.job.specs.declared.fault.JobFault.TheVariants.{SmallOutput, Table, Output, Tray, Page}
+use Rattle.job.specs.declared.faults.JobFault.{JobFault}
+use Rattle.job.specs.declared.faults.JobFault.TheVariants.{SmallOutput, Table, Output, Tray, Page}
 use Rattle.job.specs.Faults.{fault_of}
 
 -- a fault line: `fault,`, the letter, the number, the line and the byte, parted by commas, and a line feed

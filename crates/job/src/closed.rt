@@ -8,7 +8,7 @@ ghost use Rattle.theory.specs.Rows.{common};
 ghost use Rattle.view.specs.Views.{fit};
 
 use crate::closed_page::put_closed;
-use crate::fault::JobFault;
+use crate::faults::JobFault;
 use crate::report::{MIN_OUTPUT, refuse};
 use operators::table_closure::TableClosure;
 use sets::set::Set;

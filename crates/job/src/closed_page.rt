@@ -2,15 +2,15 @@ ghost use Rattle.std.specs.Prelude.{◌≡◌, ◌+◌, ◌≤◌, length, if◌
 ghost use Rattle.job.specs.Closed.{page_of, paged, lines_of_sets};
 ghost use Rattle.operators.specs.TableClosure.{signals_of};
 ghost use Rattle.output.specs.Puts.{put_at};
-ghost use Rattle.output.specs.declared.fault.OutputFault.TheVariants.{Full};
+ghost use Rattle.output.specs.declared.faults.OutputFault.TheVariants.{Full};
 ghost use Rattle.page.specs.Pages.{reserve, signal_names};
-ghost use Rattle.page.specs.declared.fault.PageFault.TheVariants.{Output};
+ghost use Rattle.page.specs.declared.faults.PageFault.TheVariants.{Output};
 ghost use Rattle.std.specs.Result.{result_map_both};
 ghost use Rattle.std.specs.List.{AllByRecursion};
 ghost use Rattle.survey.specs.Fills.{words_of};
 
 use operators::operator::Operator;
-use page::fault::PageFault;
+use page::faults::PageFault;
 use page::page::Page;
 use sets::set::Set;
 use view::table_view::TableView;

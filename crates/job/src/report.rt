@@ -5,8 +5,8 @@ ghost use Rattle.output.specs.Puts.{put_answer_of, put_at};
 ghost use Rattle.table.specs.Reading.{read_of, words_after, places_after};
 ghost use Rattle.view.specs.Views.{fit};
 
-use crate::fault::JobFault;
-use output::fault::OutputFault;
+use crate::faults::JobFault;
+use output::faults::OutputFault;
 use output::record::put_record;
 use table::place::Place;
 use table::read::read;

@@ -1,4 +1,7 @@
 //! Closure operators on sets of signals: one interface, and the operators behind it.
+
+#![tactic(auto)]
+
 pub mod entails;
 pub mod heeded;
 pub mod holds;

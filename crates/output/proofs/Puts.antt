@@ -3,8 +3,8 @@ use Rattle.std.proofs.Common.{◌≡◌, ℕ, ◌+◌, ◌-◌, ◌≤◌, true,
 use borrow.Rule.Slice.PartMut.{put_mid}
 use Rattle.std.proofs.lemmas.List.{drop-drop, length-take-le, length-drop, take_at, drop_at, take-append-drop}
 use Rattle.std.proofs.lemmas.Bool.{cases_Bool, cond-true, cond-false, le-leb, leb-true}
-use Rattle.output.specs.declared.fault.OutputFault.{OutputFault}
-use Rattle.output.specs.declared.fault.OutputFault.TheVariants.{Full}
+use Rattle.output.specs.declared.faults.OutputFault.{OutputFault}
+use Rattle.output.specs.declared.faults.OutputFault.TheVariants.{Full}
 use Rattle.output.specs.Puts.{fits_at, put_at, put_answer_of, after_put}
 
 -- what fits is put, and the position behind it is answered

@@ -2,8 +2,8 @@
 use Rattle.std.proofs.Common.{◌≡◌, ℕ, ◌+◌, ◌-◌, ◌<◌, ◌≤◌, true, false, ◌⊎◌, List, [], ◌∷◌, ◌++◌, length, take, drop, Ok, Err, Result, sym, refl, ap, ◌∙◌, inl, inr, append_assoc, zero-add, arith, length-append, length-drop}
 use Rattle.std.proofs.lemmas.List.{drop-drop}
 use Rattle.std.proofs.lemmas.Bool.{cases_lt, cond-false, lt-leb}
-use Rattle.output.specs.declared.fault.OutputFault.{OutputFault}
-use Rattle.output.specs.declared.fault.OutputFault.TheVariants.{Full}
+use Rattle.output.specs.declared.faults.OutputFault.{OutputFault}
+use Rattle.output.specs.declared.faults.OutputFault.TheVariants.{Full}
 use Rattle.output.specs.Puts.{put_answer_of, put_at, after_put}
 use Rattle.output.proofs.Puts.{answer_fits, output_fits, never_refused, granted_fits}
 use Rattle.output.proofs.Writing.{Wrote, length_wrote, wrote_more}

@@ -1,6 +1,6 @@
 -- Bytes written into an output one put after another.
 use Rattle.std.proofs.Common.{◌≡◌, ℕ, ◌+◌, ◌≤◌, List, [], ◌++◌, length, Ok, Err, Result, sym, refl, ap, ◌∙◌, add-zero, add_assoc, arith, length-append}
-use Rattle.output.specs.declared.fault.OutputFault.{OutputFault}
+use Rattle.output.specs.declared.faults.OutputFault.{OutputFault}
 use Rattle.output.specs.Puts.{put_at, put_answer_of, after_put}
 use Rattle.output.proofs.Puts.{answer_fits, output_fits, granted_fits, never_refused, length_put_at, put_at_put_at, put_at_none}
 

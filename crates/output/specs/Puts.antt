@@ -1,7 +1,7 @@
 -- Bytes put into an output, a list of bytes that keeps its length, at a position counted from 0.
 use Rattle.std.specs.Prelude.{ℕ, ◌+◌, Bool, cond, List, ◌++◌, length, take, drop, Ok, Err, Result, nat_le}
-use Rattle.output.specs.declared.fault.OutputFault.{OutputFault}
-use Rattle.output.specs.declared.fault.OutputFault.TheVariants.{Full}
+use Rattle.output.specs.declared.faults.OutputFault.{OutputFault}
+use Rattle.output.specs.declared.faults.OutputFault.TheVariants.{Full}
 
 -- the output has room for the bytes at position `at`
 abbrev pub fits_at : (at : ℕ) → (bytes out : List ℕ) → Bool

@@ -1,5 +1,8 @@
 //! Bytes and numbers put into lent output.
-pub mod fault;
+
+#![tactic(auto)]
+
+pub mod faults;
 pub mod number;
 pub mod put;
 pub mod record;

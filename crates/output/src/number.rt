@@ -1,7 +1,7 @@
 ghost use Rattle.std.specs.Prelude.{◌≡◌, ◌≤◌, length, decimal};
 ghost use Rattle.output.specs.Puts.{put_answer_of, after_put};
 
-use crate::fault::OutputFault;
+use crate::faults::OutputFault;
 use crate::put::put;
 
 // The most digits that a number has.

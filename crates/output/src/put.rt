@@ -1,7 +1,7 @@
 ghost use Rattle.std.specs.Prelude.{◌≡◌};
 ghost use Rattle.output.specs.Puts.{put_answer_of, after_put};
 
-use crate::fault::OutputFault;
+use crate::faults::OutputFault;
 
 // Puts the bytes into the output at position `at`, and answers the position behind them; where they do not fit, the output stays as before.
 pub fn put(out: &mut [u8], at: usize, bytes: &[u8]) -> Result<usize, OutputFault>

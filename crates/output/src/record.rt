@@ -2,7 +2,7 @@ ghost use Rattle.std.specs.Prelude.{◌≡◌, ◌+◌, ◌≤◌, ◌∷◌, le
 ghost use Rattle.output.specs.Puts.{put_answer_of, after_put, put_at};
 ghost use Rattle.output.specs.Records.{record_line, number_fields};
 
-use crate::fault::OutputFault;
+use crate::faults::OutputFault;
 use crate::number::{digits, put_number};
 use crate::put::put;
 

@@ -2,7 +2,7 @@
 use Rattle.std.proofs.Common.{◌≡◌, ℕ, ◌+◌, ◌-◌, ◌<◌, ◌≤◌, true, false, ◌⊎◌, List, ◌++◌, length, take, drop, Ok, Err, sym, ap, ◌∙◌, inl, inr, append_assoc, arith}
 use Rattle.std.proofs.lemmas.List.{drop-append-le, length-take-le, take-append-drop, take-append-le}
 use Rattle.std.proofs.lemmas.Bool.{cases_Bool, cases_lt, cond-false, cond-true, le-leb, leb-true, lt-leb}
-use Rattle.output.specs.declared.fault.OutputFault.{OutputFault}
+use Rattle.output.specs.declared.faults.OutputFault.{OutputFault}
 use Rattle.output.specs.Puts.{after_put, fits_at, put_answer_of, put_at}
 use Rattle.output.proofs.Puts.{answer_fits, granted_fits}
 use Rattle.output.proofs.Sequels.{refused_long}

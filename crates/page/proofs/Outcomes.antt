@@ -1,15 +1,15 @@
 -- What a page and its output hold after the line of a set was granted or refused.
 use Rattle.std.proofs.Common.{◌≡◌, ℕ, ◌+◌, ◌≤◌, Bool, true, false, ◌&&◌, ltb, leb, List, length, Ok, Err, decimal, Result, sym, ap, ◌∙◌, arith}
 use Rattle.std.proofs.lemmas.Bool.{and_from, and_left, and_parts, and_right, cond-false, cond-true, eq-eqb, leb-true, ne_eqb}
-use Rattle.output.specs.declared.fault.OutputFault.TheVariants.{Full}
+use Rattle.output.specs.declared.faults.OutputFault.TheVariants.{Full}
 use Rattle.output.specs.Puts.{put_at}
 use Rattle.output.proofs.Puts.{length_put_at}
-use Rattle.page.specs.declared.fault.PageFault.{PageFault}
-use Rattle.page.specs.declared.fault.PageFault.TheVariants as fault
+use Rattle.page.specs.declared.faults.PageFault.{PageFault}
+use Rattle.page.specs.declared.faults.PageFault.TheVariants as fault
 use Rattle.page.specs.declared.page.Page.{Page}
 use Rattle.page.specs.Pages.{at_after, chosen, lines_after, max_lines, name_fields, namesLine, output_after, reserve, setAnswer, set_line_of, takes_line, takesSet}
 use Rattle.page.proofs.SetLines.{length-line}
-use Rattle.sets.specs.declared.fault.SetFault.TheVariants.{OtherWidth}
+use Rattle.sets.specs.declared.faults.SetFault.TheVariants.{OtherWidth}
 use Rattle.sets.specs.declared.set.Set.{Set}
 
 module _ (names : List (List ℕ)) (page : Page) (place : ℕ) (set : Set) (out : List ℕ) where

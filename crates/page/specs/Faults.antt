@@ -1,8 +1,8 @@
 -- What each refusal of a page tells.
 use Rattle.fault.specs.declared.Fault.{Fault}
 use Rattle.output.specs.Faults as output
-use Rattle.page.specs.declared.fault.PageFault.{PageFault}
-use Rattle.page.specs.declared.fault.PageFault.TheVariants.{Set, Output}
+use Rattle.page.specs.declared.faults.PageFault.{PageFault}
+use Rattle.page.specs.declared.faults.PageFault.TheVariants.{Set, Output}
 use Rattle.sets.specs.Fault as sets
 
 -- a refusal is passed up whole

@@ -6,14 +6,14 @@
 --   chosen   the names of the signals that belong to a set, in the order of the signals
 use Rattle.std.specs.Prelude.{◌≡◌, ℕ, ◌+◌, Bool, true, false, cond, ◌&&◌, List, [], ◌∷◌, ◌++◌, length, Ok, Err, codes, Result, MatchResult, ◌==◌, nat_le, nat_lt}
 use Rattle.std.specs.List.{flat_map}
-use Rattle.output.specs.declared.fault.OutputFault.{OutputFault}
-use Rattle.output.specs.declared.fault.OutputFault.TheVariants.{Full}
+use Rattle.output.specs.declared.faults.OutputFault.{OutputFault}
+use Rattle.output.specs.declared.faults.OutputFault.TheVariants.{Full}
 use Rattle.output.specs.Puts.{put_at}
 use Rattle.output.specs.Records.{number_fields, record_line}
-use Rattle.page.specs.declared.fault.PageFault.{PageFault}
-use Rattle.page.specs.declared.fault.PageFault.TheVariants as fault
+use Rattle.page.specs.declared.faults.PageFault.{PageFault}
+use Rattle.page.specs.declared.faults.PageFault.TheVariants as fault
 use Rattle.page.specs.declared.page.Page.{Page}
-use Rattle.sets.specs.declared.fault.SetFault.TheVariants.{OtherWidth}
+use Rattle.sets.specs.declared.faults.SetFault.TheVariants.{OtherWidth}
 use Rattle.sets.specs.declared.set.Set.{Set}
 use Rattle.table.specs.declared.place.Place.{Place}
 use Rattle.theory.specs.Words.{bit_of}

@@ -1,5 +1,8 @@
 //! Pages of output: a head, lines and a foot that a begun page must be given.
-pub mod fault;
+
+#![tactic(auto)]
+
+pub mod faults;
 mod lines;
 pub mod page;
 #[cfg(test)]

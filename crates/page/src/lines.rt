@@ -3,7 +3,7 @@ ghost use Rattle.output.specs.Puts.{put_at};
 ghost use Rattle.output.specs.Records.{number_fields};
 ghost use Rattle.page.specs.Pages.{chosen, name_fields, namesLine, signal_names};
 
-use output::fault::OutputFault;
+use output::faults::OutputFault;
 use output::number::put_number;
 use output::put::put;
 use sets::set::Set;

@@ -2,11 +2,11 @@ ghost use Rattle.theory.proofs.Lattice.{sub_refl};
 ghost use Rattle.std.proofs.Common.{lit≤};
 ghost use Rattle.std.specs.Prelude.{refl};
 
-use crate::fault::PageFault;
+use crate::faults::PageFault;
 use crate::page::Page;
 use operators::operator::Operator;
-use output::fault::OutputFault;
-use sets::fault::SetFault;
+use output::faults::OutputFault;
+use sets::faults::SetFault;
 use sets::set::Set;
 use std::test::Fail;
 use table::place::Place;

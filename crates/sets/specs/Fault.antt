@@ -1,8 +1,8 @@
 -- What the refusals of sets, rules and surveys tell.
 use Rattle.fault.specs.declared.Fault.{Fault}
 use Rattle.fault.specs.Layers.{in_sets}
-use Rattle.sets.specs.declared.fault.SetFault.{SetFault}
-use Rattle.sets.specs.declared.fault.SetFault.TheVariants.{Unfit, NotInside, OtherWidth, Ended}
+use Rattle.sets.specs.declared.faults.SetFault.{SetFault}
+use Rattle.sets.specs.declared.faults.SetFault.TheVariants.{Unfit, NotInside, OtherWidth, Ended}
 
 -- each refusal with its number
 abbrev pub fault_of : SetFault → Fault

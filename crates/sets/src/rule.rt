@@ -3,7 +3,7 @@ ghost use Rattle.fault.specs.Layers.{in_sets};
 ghost use Rattle.sets.specs.Fault.{fault_of};
 ghost use Rattle.sets.specs.Set.{Inside};
 
-use crate::fault::SetFault;
+use crate::faults::SetFault;
 use crate::set::Set;
 
 // A rule (an implication): where every signal of the premise is present, so is every signal of the conclusion.

@@ -1,3 +1,5 @@
+#![tactic(auto)]
+
 // The program `signals`: a table text from standard input, and the page of its closed sets to standard output.
 ghost use Rattle.std.specs.Prelude.{◌≤◌, length, IfOk};
 

@@ -3,7 +3,7 @@ use Rattle.std.proofs.Common.{◌≡◌, ℕ, suc, ◌+◌, ◌-◌, ◌^◌, �
 use Rattle.std.specs.List.{AllByRecursion}
 use Rattle.std.proofs.lemmas.List.{map_push, length-map, take_all, take_at, drop-drop}
 use Rattle.std.proofs.lemmas.Bool.{cases_Bool, cond-true, cond-false, eqb-true}
-use Rattle.sets.specs.declared.fault.SetFault.{SetFault}
+use Rattle.sets.specs.declared.faults.SetFault.{SetFault}
 use Rattle.sets.specs.declared.set.Set.{Set}
 use Rattle.theory.specs.Closures.{Closed, LeastClosed, Listing, closed_below}
 use Rattle.theory.proofs.Listing.{closed_push, closed_below_front, listing_closed_below, listing_none}

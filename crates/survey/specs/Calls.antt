@@ -6,7 +6,7 @@
 --   after    the state that it leaves
 use Rattle.std.specs.Prelude.{◌≡◌, ℕ, suc, ◌+◌, ◌-◌, ◌^◌, ◌≤◌, cond, Ok, Err, Result, ◌==◌}
 use Rattle.fault.specs.Layers.{in_sets}
-use Rattle.sets.specs.declared.fault.SetFault.{SetFault}
+use Rattle.sets.specs.declared.faults.SetFault.{SetFault}
 use Rattle.sets.specs.declared.set.Set.{Set}
 use Rattle.sets.specs.Fault.{fault_of}
 use Rattle.survey.specs.declared.call.Answer.{Answer}

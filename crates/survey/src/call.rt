@@ -1,4 +1,4 @@
-use sets::fault::SetFault;
+use sets::faults::SetFault;
 use sets::set::Set;
 
 // What a survey is asked.

@@ -10,7 +10,7 @@ use crate::survey::Survey;
 use operators::operator::Operator;
 use sets::set::Set;
 use tray::Tray;
-use tray::fault::TrayFault;
+use tray::faults::TrayFault;
 
 // Empties the tray, and puts every closed set of the operator into it, in the lectic order; refused where it is full, with the sets that fitted kept.
 pub fn fill<O: Operator + Drop>(operator: O, tray: &mut Tray<Set>) -> Result<(), TrayFault>

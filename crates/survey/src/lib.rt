@@ -1,5 +1,7 @@
 //! The survey: the closed sets of an operator, one by one in the lectic order (NextClosure), and the law of their listing.
 
+#![tactic(auto)]
+
 pub mod call;
 pub mod fill;
 mod next;

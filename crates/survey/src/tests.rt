@@ -6,7 +6,7 @@ use crate::call::{Answer, Call};
 use crate::run::run;
 use crate::survey::Survey;
 use operators::operator::Operator;
-use sets::fault::SetFault;
+use sets::faults::SetFault;
 use sets::set::Set;
 use std::test::Fail;
 

@@ -4,8 +4,8 @@ use Rattle.std.specs.List.{flat_map, AllByRecursion}
 use Rattle.std.proofs.lemmas.Fmt.{length-decimal-le}
 use Rattle.std.proofs.lemmas.List.{append_assoc, length-append, length-take, length-drop, take-append-drop, take_at, drop_at}
 use Rattle.std.proofs.lemmas.Bool.{cond-false, ltb-false, le-ltb}
-use Rattle.table.specs.declared.fault.TableFault.{TableFault}
-use Rattle.table.specs.declared.fault.TableFault.TheVariants.{TooLong}
+use Rattle.table.specs.declared.faults.TableFault.{TableFault}
+use Rattle.table.specs.declared.faults.TableFault.TheVariants.{TooLong}
 use Rattle.table.specs.Names.{Name, part_at}
 use Rattle.table.specs.Reading.{and_then, Contents, head_of, body_of, read_of, answer_of, words_after, places_after, held}
 use Rattle.table.specs.declared.place.Place.{Place}

@@ -2,7 +2,7 @@
 use Rattle.std.proofs.Common.{◌≡◌, ℕ, zero, suc, ◌+◌, ◌≤◌, ltb, List, [], length, take, Ok, Err, Result, sym, refl, ap, ◌∙◌, arith}
 use Rattle.std.proofs.lemmas.List.{take_at}
 use Rattle.std.proofs.lemmas.Bool.{cond-false, le-ltb}
-use Rattle.table.specs.declared.fault.TableFault.{TableFault}
+use Rattle.table.specs.declared.faults.TableFault.{TableFault}
 use Rattle.table.specs.declared.head.Head.{Head}
 use Rattle.table.specs.declared.lines.Taken.{Taken}
 use Rattle.table.specs.declared.place.Place.{Place}

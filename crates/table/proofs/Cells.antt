@@ -4,8 +4,8 @@ use native.Mathlib.Nat.{div-eq_of_lt}
 use Rattle.std.specs.List.{AllByRecursion}
 use Rattle.std.proofs.lemmas.Nat.{shr-shr, pow_pos}
 use Rattle.std.proofs.lemmas.Bool.{cond-true, eq-eqb, eqb-true}
-use Rattle.table.specs.declared.fault.TableFault.{TableFault}
-use Rattle.table.specs.declared.fault.TableFault.TheVariants.{CellCount, NotCell}
+use Rattle.table.specs.declared.faults.TableFault.{TableFault}
+use Rattle.table.specs.declared.faults.TableFault.TheVariants.{CellCount, NotCell}
 use Rattle.table.specs.Reading.{cells_from, row_item}
 use Rattle.table.specs.Tables.{cells_at, cells}
 use Rattle.table.proofs.Codecs.{Free, Both, Codec, not_ok, cond_from}

@@ -3,9 +3,9 @@ use Rattle.std.proofs.Common.{◌≡◌, ℕ, zero, suc, ◌+◌, ◌-◌, Bool,
 use Rattle.std.specs.List.{flat_map, AllByRecursion}
 use Rattle.std.proofs.lemmas.List.{append_assoc, length-append, take_at}
 use Rattle.std.proofs.lemmas.Bool.{cond-false, ne_eqb, eqb-true}
-use Rattle.text.specs.declared.fault.FieldFault.{FieldFault}
+use Rattle.text.specs.declared.faults.FieldFault.{FieldFault}
 use Rattle.text.specs.Lines.{feed_from, line_end_of}
-use Rattle.table.specs.declared.fault.TableFault.{TableFault}
+use Rattle.table.specs.declared.faults.TableFault.{TableFault}
 use Rattle.table.specs.Reading.{and_then, raised, Item, line_at, lines_at, behind}
 use Rattle.table.specs.declared.lines.Taken.{Taken}
 use Rattle.table.specs.Tables.{line}

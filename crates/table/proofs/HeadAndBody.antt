@@ -3,8 +3,8 @@ use Rattle.std.proofs.Common.{◌≡◌, ℕ, ◌+◌, ◌^◌, ◌<◌, ◌≤�
 use Rattle.std.specs.List.{flat_map, AllByRecursion}
 use Rattle.std.proofs.lemmas.List.{length-map}
 use Rattle.std.proofs.lemmas.Bool.{cond-false, or_parts, or_from, ltb-false, le-ltb, eqb-true}
-use Rattle.table.specs.declared.fault.TableFault.{TableFault}
-use Rattle.table.specs.declared.fault.TableFault.TheVariants.{NotB, NoRoom}
+use Rattle.table.specs.declared.faults.TableFault.{TableFault}
+use Rattle.table.specs.declared.faults.TableFault.TheVariants.{NotB, NoRoom}
 use Rattle.table.specs.declared.place.Place.{Place}
 use Rattle.table.specs.Names.{Name}
 use Rattle.table.specs.Reading.{line_at, lines_at, letter_item, empty_item, size_item, name_item, row_item, room_for, Contents, head_of, body_of}

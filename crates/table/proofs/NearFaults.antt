@@ -3,12 +3,12 @@ use Rattle.std.proofs.Common.{◌≡◌, ℕ, zero, suc, ◌+◌, ◌-◌, ◌*�
 use Rattle.std.specs.Char.{is_ascii_digit}
 use Rattle.std.proofs.lemmas.Bool.{cond_both, and_parts, ltb-true, leb-true, eqb-true}
 use Rattle.fault.specs.Layers.{Near}
-use Rattle.text.specs.declared.fault.FieldFault.{FieldFault}
+use Rattle.text.specs.declared.faults.FieldFault.{FieldFault}
 use Rattle.text.specs.Faults as fields
 use Rattle.text.specs.Lines.{feed_from, line_end_of}
 use Rattle.text.specs.Numbers.{digits_from, zero_then, number_of}
-use Rattle.table.specs.declared.fault.TableFault.{TableFault}
-use Rattle.table.specs.declared.fault.TableFault.TheVariants.{TooLong, NotB, TooMany, NoRoom, CellCount}
+use Rattle.table.specs.declared.faults.TableFault.{TableFault}
+use Rattle.table.specs.declared.faults.TableFault.TheVariants.{TooLong, NotB, TooMany, NoRoom, CellCount}
 use Rattle.table.specs.declared.head.Head.{Head}
 use Rattle.table.specs.declared.lines.Taken.{Taken}
 use Rattle.table.specs.declared.place.Place.{Place}

@@ -5,11 +5,11 @@ use Rattle.std.specs.Str.{all_ascii_digits}
 use Rattle.std.proofs.lemmas.Str.Parse.{IsNumeralModel, numerals_by_fold, tells_all_ascii_digits}
 use Rattle.std.proofs.lemmas.Fmt.{decimal_digit, decimal-digits_value, digits_value-decimal, digits_decimal, length-decimal-le, first_decimal, decimal_nonempty}
 use Rattle.std.proofs.lemmas.Bool.{cond-true, cond-false, and_from, and_parts, lt-ltb, leb-true, le-leb, ne_eqb, eqb-true, eqb-false}
-use Rattle.text.specs.declared.fault.FieldFault.{FieldFault}
-use Rattle.text.specs.declared.fault.FieldFault.TheVariants.{NoNumber}
+use Rattle.text.specs.declared.faults.FieldFault.{FieldFault}
+use Rattle.text.specs.declared.faults.FieldFault.TheVariants.{NoNumber}
 use Rattle.text.specs.Numbers.{digits_from, zero_then, number_of}
-use Rattle.table.specs.declared.fault.TableFault.{TableFault}
-use Rattle.table.specs.declared.fault.TableFault.TheVariants.{TooMany}
+use Rattle.table.specs.declared.faults.TableFault.{TableFault}
+use Rattle.table.specs.declared.faults.TableFault.TheVariants.{TooMany}
 use Rattle.table.specs.Reading.{raised, size_item}
 use Rattle.table.proofs.Codecs.{Free, not_ok, cond_from, then_from, then_ok, raised_from}
 

@@ -2,8 +2,8 @@
 use Rattle.fault.specs.declared.Fault.{Fault}
 use Rattle.fault.specs.Layers.{in_tables}
 use Rattle.text.specs.Faults as fields
-use Rattle.table.specs.declared.fault.TableFault.{TableFault}
-use Rattle.table.specs.declared.fault.TableFault.TheVariants.{Field, TooLong, NotB, NotEmpty, TooMany, NoRoom, NotName, CellCount, NotCell}
+use Rattle.table.specs.declared.faults.TableFault.{TableFault}
+use Rattle.table.specs.declared.faults.TableFault.TheVariants.{Field, TooLong, NotB, NotEmpty, TooMany, NoRoom, NotName, CellCount, NotCell}
 
 abbrev pub fault_of : TableFault → Fault
 fault_of (Field inner) = fields.fault_of inner

@@ -1,6 +1,6 @@
 -- What it means that a text is accepted: it begins with the text of a table.
 use Rattle.std.specs.Prelude.{◌≡◌, ℕ, ◌+◌, ◌≤◌, List, ◌++◌, map, length, Ok, Err, Result}
-use Rattle.table.specs.declared.fault.TableFault.{TableFault}
+use Rattle.table.specs.declared.faults.TableFault.{TableFault}
 use Rattle.table.specs.Names.{part_at}
 use Rattle.table.specs.Reading.{Contents, read_of}
 use Rattle.table.specs.Tables.{Table, Lawful, text_of}

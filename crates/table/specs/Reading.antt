@@ -1,10 +1,10 @@
 -- Reading a table text, line by line: the answer, or the first fault. Lines count from 1, positions from 0.
 use Rattle.std.specs.Prelude.{ℕ, zero, suc, ◌+◌, ◌-◌, ◌*◌, Bool, cond, not, ◌||◌, List, [], ◌∷◌, ◌++◌, length, take, drop, Some, None, Ok, Err, Option, Result, ◌==◌, nat_le, nat_lt}
-use Rattle.text.specs.declared.fault.FieldFault.{FieldFault}
+use Rattle.text.specs.declared.faults.FieldFault.{FieldFault}
 use Rattle.text.specs.Lines.{line_end_of}
 use Rattle.text.specs.Numbers.{number_of}
-use Rattle.table.specs.declared.fault.TableFault.{TableFault}
-use Rattle.table.specs.declared.fault.TableFault.TheVariants.{Field, TooLong, NotB, NotEmpty, TooMany, NoRoom, NotName, CellCount, NotCell}
+use Rattle.table.specs.declared.faults.TableFault.{TableFault}
+use Rattle.table.specs.declared.faults.TableFault.TheVariants.{Field, TooLong, NotB, NotEmpty, TooMany, NoRoom, NotName, CellCount, NotCell}
 use Rattle.table.specs.declared.head.Head.{Head}
 use Rattle.table.specs.declared.lines.Taken.{Taken}
 use Rattle.table.specs.declared.place.Place.{Place}

@@ -1,7 +1,7 @@
 ghost use Rattle.std.specs.Prelude.{◌≡◌, ◌+◌, ◌≤◌, IfOk};
 ghost use Rattle.table.specs.Reading.{head_of};
 
-use crate::fault::TableFault;
+use crate::faults::TableFault;
 use crate::limits::MAX_ROWS;
 use crate::lines::{empty_line, letter_line, size_line};
 use theory::MAX_SIGNALS;

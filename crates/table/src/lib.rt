@@ -1,5 +1,8 @@
 //! The plant table as a text: its names, its refusals, and reading it.
-pub mod fault;
+
+#![tactic(auto)]
+
+pub mod faults;
 mod head;
 pub mod limits;
 mod lines;

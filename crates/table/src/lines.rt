@@ -1,7 +1,7 @@
 ghost use Rattle.std.specs.Prelude.{◌≡◌, ◌≤◌, IfOk};
 ghost use Rattle.table.specs.Reading.{line_at, letter_item, empty_item, size_item, name_item, row_item};
 
-use crate::fault::TableFault;
+use crate::faults::TableFault;
 use crate::name::wrong_byte;
 use crate::place::Place;
 use text::line::line_end;

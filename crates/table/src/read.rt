@@ -4,7 +4,7 @@ ghost use Rattle.table.specs.Faults.{fault_of};
 ghost use Rattle.table.specs.Grammar.{Grammar};
 ghost use Rattle.table.specs.Reading.{read_of, body_of, bytes_of, answer_of, words_after, places_after, filled, held};
 
-use crate::fault::TableFault;
+use crate::faults::TableFault;
 use crate::head::{Head, read_head};
 use crate::limits::{MAX_NAMES, MAX_ROWS, MAX_TEXT};
 use crate::place::Place;

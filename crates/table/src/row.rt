@@ -1,7 +1,7 @@
 ghost use Rattle.std.specs.Prelude.{◌≡◌, ◌≤◌, length, if◌then◌else◌, Some, None, nat_eq};
 ghost use Rattle.table.specs.Reading.{line_at, row_item, cells_from};
 
-use crate::fault::TableFault;
+use crate::faults::TableFault;
 use crate::lines::Taken;
 use text::line::line_end;
 

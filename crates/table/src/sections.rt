@@ -1,7 +1,7 @@
 ghost use Rattle.std.specs.Prelude.{◌≡◌, ◌+◌, ◌≤◌, length, take};
 ghost use Rattle.table.specs.Reading.{lines_at, name_item, row_item, kept_as};
 
-use crate::fault::TableFault;
+use crate::faults::TableFault;
 use crate::lines::name_line;
 use crate::place::Place;
 use crate::row::row_line;

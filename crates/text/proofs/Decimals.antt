@@ -3,7 +3,7 @@ use Rattle.std.proofs.Common.{◌≡◌, ℕ, ◌+◌, ◌-◌, ◌*◌, ◌^◌
 use Rattle.std.specs.Char.{is_ascii_digit}
 use Rattle.std.proofs.lemmas.List.{at_drop_more, at_drop_all}
 use Rattle.std.proofs.lemmas.Bool.{cond-true, cond-false, and_from, and_left, and_right, lt-ltb, le-ltb, and_parts, leb-true}
-use Rattle.text.specs.declared.fault.FieldFault.TheVariants.{NoNumber}
+use Rattle.text.specs.declared.faults.FieldFault.TheVariants.{NoNumber}
 use Rattle.text.specs.Numbers.{digits_from}
 
 pub digit_more : (line v i : ℕ) (xs : List ℕ) → i < length xs → i < 4 → is_ascii_digit (get_or xs i 0) ≡ true

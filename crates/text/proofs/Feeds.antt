@@ -2,7 +2,7 @@
 use Rattle.std.proofs.Common.{◌≡◌, ℕ, ◌+◌, ◌<◌, ◌≤◌, List, ◌∷◌, length, get_or, drop, Ok, Err, ◌∙◌}
 use Rattle.std.proofs.lemmas.List.{at_drop_more, at_drop_all}
 use Rattle.std.proofs.lemmas.Bool.{cond-true, cond-false, eq-eqb, ne_eqb}
-use Rattle.text.specs.declared.fault.FieldFault.TheVariants.{NoLineFeed}
+use Rattle.text.specs.declared.faults.FieldFault.TheVariants.{NoLineFeed}
 use Rattle.text.specs.Lines.{feed_from}
 
 pub feed_here : (line i : ℕ) (xs : List ℕ) → i < length xs → get_or xs i 0 ≡ 10 → feed_from line i (drop i xs) ≡ Ok i

@@ -1,7 +1,7 @@
 -- Lines of a text. A text is a list of bytes, and a line ends at a line feed, the byte 10.
 use Rattle.std.specs.Prelude.{ℕ, ◌+◌, cond, List, [], ◌∷◌, drop, Ok, Err, Result, ◌==◌}
-use Rattle.text.specs.declared.fault.FieldFault.{FieldFault}
-use Rattle.text.specs.declared.fault.FieldFault.TheVariants.{NoLineFeed}
+use Rattle.text.specs.declared.faults.FieldFault.{FieldFault}
+use Rattle.text.specs.declared.faults.FieldFault.TheVariants.{NoLineFeed}
 
 -- where the first line feed stands in bytes that begin at position `at`
 abbrev pub feed_from : (line at : ℕ) → List ℕ → Result ℕ FieldFault

@@ -1,8 +1,8 @@
 -- Numbers from 0 to 9999 as a line or a field writes them: one to four digits, with no leading zero except for 0 itself.
 use Rattle.std.specs.Prelude.{ℕ, ◌+◌, ◌-◌, ◌*◌, cond, ◌&&◌, List, [], ◌∷◌, Ok, Err, Result, ◌==◌, nat_lt}
 use Rattle.std.specs.Char.{is_ascii_digit}
-use Rattle.text.specs.declared.fault.FieldFault.{FieldFault}
-use Rattle.text.specs.declared.fault.FieldFault.TheVariants.{NoNumber}
+use Rattle.text.specs.declared.faults.FieldFault.{FieldFault}
+use Rattle.text.specs.declared.faults.FieldFault.TheVariants.{NoNumber}
 
 -- the number of `value` followed by more digits, of which `count` are read; the first byte that is no digit, or a fifth digit, is wrong
 abbrev pub digits_from : (line value count : ℕ) → List ℕ → Result ℕ FieldFault

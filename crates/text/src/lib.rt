@@ -1,4 +1,7 @@
 //! Texts in lines: where a line ends, and what number a line or a field writes.
-pub mod fault;
+
+#![tactic(auto)]
+
+pub mod faults;
 pub mod line;
 pub mod number;

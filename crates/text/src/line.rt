@@ -1,7 +1,7 @@
 ghost use Rattle.std.specs.Prelude.{◌≡◌, ◌<◌, ◌≤◌, length, IfOk};
 ghost use Rattle.text.specs.Lines.{line_end_of};
 
-use crate::fault::FieldFault;
+use crate::faults::FieldFault;
 
 // Finds where the line that begins at `at` ends: the position of its line feed.
 pub fn line_end(text: &[u8], line: usize, at: usize) -> Result<usize, FieldFault>

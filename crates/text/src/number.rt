@@ -1,7 +1,7 @@
 ghost use Rattle.std.specs.Prelude.{◌≡◌};
 ghost use Rattle.text.specs.Numbers.{number_of, digits_from};
 
-use crate::fault::FieldFault;
+use crate::faults::FieldFault;
 
 // The most digits that a number has.
 pub const MAX_DIGITS: usize = 4;

@@ -1,8 +1,8 @@
 -- What the refusals of trays tell.
 use Rattle.fault.specs.declared.Fault.{Fault}
 use Rattle.fault.specs.Layers.{in_trays}
-use Rattle.tray.specs.declared.fault.TrayFault.{TrayFault}
-use Rattle.tray.specs.declared.fault.TrayFault.TheVariants.{Full}
+use Rattle.tray.specs.declared.faults.TrayFault.{TrayFault}
+use Rattle.tray.specs.declared.faults.TrayFault.TheVariants.{Full}
 
 -- each refusal with its number
 abbrev pub fault_of : TrayFault → Fault

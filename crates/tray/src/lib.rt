@@ -1,12 +1,15 @@
 //! Trays: entries kept in order in lent memory.
+
+#![tactic(auto)]
+
 ghost use Rattle.std.specs.Prelude.{◌≡◌, ◌<◌, ◌≤◌, [], ◌∷◌, ◌++◌, length, drop, MatchOption, MatchResult, slice_index_or};
 ghost use Rattle.fault.specs.Layers.{in_trays};
 ghost use Rattle.tray.specs.Fault.{fault_of};
 ghost use Rattle.tray.specs.Tray.{capacity, entries};
 
-use crate::fault::TrayFault;
+use crate::faults::TrayFault;
 
-pub mod fault;
+pub mod faults;
 #[cfg(test)]
 mod tests;
 

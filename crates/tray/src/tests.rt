@@ -1,4 +1,4 @@
-use crate::fault::TrayFault;
+use crate::faults::TrayFault;
 use crate::{MAX_ENTRIES, Tray};
 use sets::edge::Edge;
 use sets::rule::Rule;

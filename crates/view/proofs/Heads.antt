@@ -1,6 +1,6 @@
 -- The first five lines of a table text, put by put.
 use Rattle.std.proofs.Common.{◌≡◌, ℕ, ◌+◌, ◌≤◌, List, [], ◌∷◌, ◌++◌, length, Ok, decimal, Result, sym, ap, ◌∙◌, subst, append_assoc, zero-add, arith}
-use Rattle.output.specs.declared.fault.OutputFault.{OutputFault}
+use Rattle.output.specs.declared.faults.OutputFault.{OutputFault}
 use Rattle.output.specs.Puts.{put_at, put_answer_of, after_put}
 use Rattle.output.proofs.Writing.{Wrote, wrote_answer, wrote_output, front_room}
 use Rattle.view.specs.Texts.{head_text}

@@ -1,6 +1,6 @@
 -- The head, the names and the rows, written one behind another, are the text.
 use Rattle.std.proofs.Common.{◌≡◌, ℕ, ◌+◌, ◌-◌, ◌≤◌, List, ◌++◌, length, Ok, Result, sym, refl, ap, ◌∙◌, subst, append_assoc, zero-add, arith}
-use Rattle.output.specs.declared.fault.OutputFault.{OutputFault}
+use Rattle.output.specs.declared.faults.OutputFault.{OutputFault}
 use Rattle.output.specs.Puts.{put_at, put_answer_of, after_put}
 use Rattle.output.proofs.Puts.{answer_fits, output_fits}
 use Rattle.output.proofs.Writing.{Wrote, wrote_more, wrote_room, front_room}

@@ -6,7 +6,7 @@ ghost use Rattle.view.specs.Texts.{cell_of, head_text, names_text, rows_text, sh
 ghost use Rattle.view.specs.Views.{table_of};
 
 use crate::table_view::TableView;
-use output::fault::OutputFault;
+use output::faults::OutputFault;
 use output::number::{digits, put_number};
 use output::put::put;
 use theory::MAX_SIGNALS;

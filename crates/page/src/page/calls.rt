@@ -3,7 +3,7 @@ ghost use Rattle.output.specs.Puts.{after_put, put_answer_of};
 ghost use Rattle.page.specs.Pages.{foot, max_lines, reserve};
 
 use super::{FOOT_BYTES, MAX_LINES, Page};
-use output::fault::OutputFault;
+use output::faults::OutputFault;
 use output::record::put_record;
 
 impl Page {

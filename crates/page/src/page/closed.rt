@@ -2,13 +2,13 @@ ghost use Rattle.std.specs.Prelude.{◌≡◌, ◌+◌, ◌-◌, ◌≤◌, leng
 ghost use Rattle.page.specs.Pages.{Begun, at_after, closed_head, lines_after, output_after, put_before, reserve, setAnswer, signal_names};
 
 use super::{FOOT_BYTES, Page};
-use crate::fault::PageFault;
+use crate::faults::PageFault;
 use crate::lines::{count_names, put_set};
 use operators::operator::Operator;
-use output::fault::OutputFault;
+use output::faults::OutputFault;
 use output::number::digits;
 use output::record::put_record;
-use sets::fault::SetFault;
+use sets::faults::SetFault;
 use sets::set::Set;
 use view::table_view::TableView;
 

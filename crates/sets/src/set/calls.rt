@@ -5,7 +5,7 @@ ghost use Rattle.sets.specs.Set.{Fit, HasSignal, Inside, Precedes};
 ghost use Rattle.theory.specs.Words.{Sub};
 
 use super::Set;
-use crate::fault::SetFault;
+use crate::faults::SetFault;
 use theory::MAX_SIGNALS;
 
 impl Set {

@@ -1,5 +1,5 @@
 ghost use Rattle.std.specs.Prelude.{◌≡◌, suc, ◌≤◌, IfSome, MatchOption};
-ghost use Rattle.sets.specs.declared.fault.SetFault.TheVariants.{Ended as AtEnd};
+ghost use Rattle.sets.specs.declared.faults.SetFault.TheVariants.{Ended as AtEnd};
 ghost use Rattle.survey.specs.Calls.{Takes, of_seek, of_step, state_after};
 ghost use Rattle.survey.specs.declared.call.Answer.TheVariants.{Listed, Moved, Refused};
 ghost use Rattle.survey.specs.declared.call.Call.TheVariants.{Step, Seek, Rewind};
@@ -10,7 +10,7 @@ use crate::call::{Answer, Call};
 use crate::next::{first_from, next_after};
 use crate::state::State;
 use operators::operator::Operator;
-use sets::fault::SetFault;
+use sets::faults::SetFault;
 use sets::set::Set;
 
 impl<O: Operator> Survey<O> {

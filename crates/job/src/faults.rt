@@ -1,12 +1,12 @@
 ghost use Rattle.std.specs.Prelude.{◌≡◌};
 ghost use Rattle.job.specs.Faults.{fault_of};
-ghost use Rattle.job.specs.declared.fault.JobFault.TheVariants.{Output, Page, Table, Tray};
+ghost use Rattle.job.specs.declared.faults.JobFault.TheVariants.{Output, Page, Table, Tray};
 
 use fault::Fault;
-use output::fault::OutputFault;
-use page::fault::PageFault;
-use table::fault::TableFault;
-use tray::fault::TrayFault;
+use output::faults::OutputFault;
+use page::faults::PageFault;
+use table::faults::TableFault;
+use tray::faults::TrayFault;
 
 // Why a job is refused.
 #[derive(Clone, Copy, PartialEq, Eq, Debug)]

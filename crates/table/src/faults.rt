@@ -1,9 +1,9 @@
 ghost use Rattle.std.specs.Prelude.{◌≡◌};
 ghost use Rattle.table.specs.Faults.{fault_of};
-ghost use Rattle.table.specs.declared.fault.TableFault.TheVariants.{Field};
+ghost use Rattle.table.specs.declared.faults.TableFault.TheVariants.{Field};
 
 use fault::Fault;
-use text::fault::FieldFault;
+use text::faults::FieldFault;
 
 // Why a table text is refused.
 #[derive(Clone, Copy, PartialEq, Eq, Debug)]

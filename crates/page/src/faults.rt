@@ -1,10 +1,10 @@
 ghost use Rattle.std.specs.Prelude.{◌≡◌};
-ghost use Rattle.page.specs.declared.fault.PageFault.TheVariants.{Set, Output};
+ghost use Rattle.page.specs.declared.faults.PageFault.TheVariants.{Set, Output};
 ghost use Rattle.page.specs.Faults.{fault_of};
 
 use fault::Fault;
-use output::fault::OutputFault;
-use sets::fault::SetFault;
+use output::faults::OutputFault;
+use sets::faults::SetFault;
 
 // Why a page does not take a line.
 #[derive(Clone, Copy, PartialEq, Eq, Debug)]
