@@ -16,7 +16,7 @@ returns-then-next-word c =
     let within = of_width_within c.args.width c.args.rules.now in
     record {
       closed = keeps_all_close proper c.args.width rules within c.requires c.loop-word.invariant.0 c.loop-word.invariant.1
-          (same_keeps_all proper rules c.loop-word.word (sym c.one-pass-next.ensures.passed ∙ c.if-next-word.true));
+          (same_keeps_all proper rules c.loop-word.word (sym c.one_pass-next.ensures.passed ∙ c.if-next-word.true));
     }
 
 -- a pass that changes the word raises it, and stays below the closure
@@ -24,7 +24,7 @@ pub loop-word-smaller : goal.loop-word-smaller
 loop-word-smaller c =
     let rules = of_width c.args.width c.args.rules.now in
     let within = of_width_within c.args.width c.args.rules.now in
-    let e = c.one-pass-next.ensures.passed in
+    let e = c.one_pass-next.ensures.passed in
     omega (
       arith,
       pass_rises proper rules c.loop-word.word (λ k. c.if-next-word.false (e ∙ k)),
@@ -36,7 +36,7 @@ pub loop-word-preserved : goal.loop-word-preserved
 loop-word-preserved c =
     let rules = of_width c.args.width c.args.rules.now in
     let within = of_width_within c.args.width c.args.rules.now in
-    rw c.one-pass-next.ensures.passed (
+    rw c.one_pass-next.ensures.passed (
       sub_trans c.loop-word.invariant.0 (pass_extends proper rules c.loop-word.word),
       pass_close proper c.args.width rules within c.requires c.loop-word.invariant.1,
     )

@@ -10,8 +10,8 @@ use Rattle.operators.proofs.rule_closure.count_missing.Goals.{then-lacking-eq0, 
 pub loop-i-init : goal.loop-i-init
 loop-i-init c = (λ i rule l h. absurd (omega arith), sub_refl c.args.start, λ z _ s. s)
 
-pub overflow-sub-lacking : goal.overflow-sub-lacking
-overflow-sub-lacking c = ones_part c.word-needed.result c.args.start
+pub overflow_sub-lacking : goal.overflow_sub-lacking
+overflow_sub-lacking c = ones_part c.word-needed.result c.args.start
 
 pub loop-i-preserved : goal.loop-i-preserved
 loop-i-preserved c =

@@ -15,8 +15,8 @@ loop-done-smaller c =
 
 pub loop-done-preserved : goal.loop-done-preserved
 loop-done-preserved c =
-    let t = c.take-waiting-grown.ensures in (
-      c.take-waiting-grown.auto.missing ∙ c.loop-done.invariant.0,
+    let t = c.take_waiting-grown.ensures in (
+      c.take_waiting-grown.auto.missing ∙ c.loop-done.invariant.0,
       t.counted,
       t.contains,
       sub_trans c.loop-done.invariant.3 t.contains,

@@ -11,8 +11,8 @@ use Rattle.operators.proofs.rule_closure.take_waiting.Goals.{then-found-eq0-via-
 pub loop-i-init : goal.loop-i-init
 loop-i-init c = (λ i rule l h. absurd (omega arith), c.requires.counted, sub_refl c.args.word, λ z _ s. s)
 
-pub overflow-cast-found : goal.overflow-cast-found
-overflow-cast-found c =
+pub overflow_cast-found : goal.overflow_cast-found
+overflow_cast-found c =
     let s = c.premise-premise.result in
     let waiting = bit_xor c.args.word c.args.done in
     let e = ap (λ n. ones (bit_and n waiting)) c.word.ensures.value in
@@ -36,8 +36,8 @@ loop-i-preserved-then-found-eq0 c =
       )
     ]
 
-pub overflow-sub-lacking : goal.overflow-sub-lacking
-overflow-sub-lacking c =
+pub overflow_sub-lacking : goal.overflow_sub-lacking
+overflow_sub-lacking c =
     let item = c.index-rules-i.result in
     let spans = sym (width_of c.width.ensures.value c.premise-premise.ensures.value) ∙ c.if-width.false in
     found_le c.args.done c.args.word (get_or c.loop-i.missing c.loop-i.i 0)

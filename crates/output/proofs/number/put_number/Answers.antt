@@ -2,8 +2,8 @@ use Rattle.std.proofs.Common.{rules}
 use Rattle.output.proofs.Digits.{room_left, digit_written, all_written}
 use Rattle.output.proofs.number.put_number.Goals as goal
 
-pub overflow-sub-start : goal.overflow-sub-start
-overflow-sub-start c = search (rules, room_left)
+pub overflow_sub-start : goal.overflow_sub-start
+overflow_sub-start c = search (rules, room_left)
 
 pub loop-left-preserved : goal.loop-left-preserved
 loop-left-preserved c = search (rules, digit_written)

@@ -5,19 +5,19 @@ use Rattle.output.proofs.Puts.{answer_fits, output_fits}
 use Rattle.output.proofs.Writing.{wrote_none, wrote_put, wrote_more, wrote_break, wrote_room, wrote_answer, wrote_output, front_room}
 use Rattle.output.proofs.record.put_record.Goals as goal
 
-pub returns-in-err-at : goal.returns-in-err-at
-returns-in-err-at c =
+pub returns-in_err-at : goal.returns-in_err-at
+returns-in_err-at c =
     let room : c.args.at + length (record_line c.args.word.now c.args.numbers.now) ≤ length c.args.out.now = search rules in
     wrote_break c.args.at [] c.args.word.now c.args.out.now c.args.out.now c.args.at _
     (wrote_none c.args.at c.args.out.now (omega arith)) (front_room _ _ c.args.word.now (number_fields c.args.numbers.now ++ 10 ∷ []) room)
-    c.in-err-at.ensures.answer
+    c.in_err-at.ensures.answer
 
-pub put-numbers-requires : goal.put-numbers-requires
-put-numbers-requires c =
+pub put_numbers-requires : goal.put_numbers-requires
+put_numbers-requires c =
     let room : c.args.at + length (record_line c.args.word.now c.args.numbers.now) ≤ length c.args.out.now = search rules in
-    let w = wrote_put c.args.at [] c.args.word.now c.args.out.now c.args.out.now c.put.new.out c.args.at c.in-ok-at.at
-    (wrote_none c.args.at c.args.out.now (omega arith)) c.in-ok-at.ensures.answer c.in-ok-at.ensures.output in
-    wrote_room c.args.at c.args.word.now (number_fields c.args.numbers.now) c.args.out.now c.put.new.out c.in-ok-at.at w
+    let w = wrote_put c.args.at [] c.args.word.now c.args.out.now c.args.out.now c.put.new.out c.args.at c.in_ok-at.at
+    (wrote_none c.args.at c.args.out.now (omega arith)) c.in_ok-at.ensures.answer c.in_ok-at.ensures.output in
+    wrote_room c.args.at c.args.word.now (number_fields c.args.numbers.now) c.args.out.now c.put.new.out c.in_ok-at.at w
     (omega (
       arith,
       length-append c.args.word.now (number_fields c.args.numbers.now),
@@ -31,12 +31,12 @@ returns c =
     let grouped = append_assoc c.args.word.now (number_fields c.args.numbers.now) (10 ∷ []) in
     let room3 : c.args.at + length ((c.args.word.now ++ number_fields c.args.numbers.now) ++ 10 ∷ []) ≤ length c.args.out.now =
     subst (λ bs. c.args.at + length bs ≤ length c.args.out.now) (sym grouped) room in
-    let w1 = wrote_put c.args.at [] c.args.word.now c.args.out.now c.args.out.now c.put.new.out c.args.at c.in-ok-at.at
-    (wrote_none c.args.at c.args.out.now (omega arith)) c.in-ok-at.ensures.answer c.in-ok-at.ensures.output in
-    let granted = c.in-ok-at-2.ensures.answer in
-    let next : c.in-ok-at-2.at ≡ c.in-ok-at.at + length (number_fields c.args.numbers.now) = cc in
-    let w2 = wrote_more c.args.at c.args.word.now (number_fields c.args.numbers.now) c.args.out.now c.put.new.out c.put-numbers.new.out c.in-ok-at.at c.in-ok-at-2.at
-    w1 (front_room _ _ _ (10 ∷ []) room3) next c.put-numbers.ensures.output in
+    let w1 = wrote_put c.args.at [] c.args.word.now c.args.out.now c.args.out.now c.put.new.out c.args.at c.in_ok-at.at
+    (wrote_none c.args.at c.args.out.now (omega arith)) c.in_ok-at.ensures.answer c.in_ok-at.ensures.output in
+    let granted = c.in_ok-at-2.ensures.answer in
+    let next : c.in_ok-at-2.at ≡ c.in_ok-at.at + length (number_fields c.args.numbers.now) = cc in
+    let w2 = wrote_more c.args.at c.args.word.now (number_fields c.args.numbers.now) c.args.out.now c.put.new.out c.put_numbers.new.out c.in_ok-at.at c.in_ok-at-2.at
+    w1 (front_room _ _ _ (10 ∷ []) room3) next c.put_numbers.ensures.output in
     record {
       answer = wrote_answer _ _ (10 ∷ []) _ _ _ _ w2 room3 c.put-2.ensures.answer
           ∙ sym (answer_fits c.args.at _ c.args.out.now room3)

@@ -5,39 +5,39 @@ use Rattle.table.proofs.Bodies.{read_behind, answer_behind}
 use Rattle.table.proofs.NearFaults.{near_answered}
 use Rattle.table.proofs.read.read.Goals as goal
 
-pub returns-in-err-head : goal.returns-in-err-head
-returns-in-err-head c =
+pub returns-in_err-head : goal.returns-in_err-head
+returns-in_err-head c =
     record {
       answer = search rules;
       words = search rules;
       places = search rules;
-      grammar = grammar_held c.args.text.now c.args.words.now c.args.places.now c.from-residual.result c.args.words.now c.args.places.now
+      grammar = grammar_held c.args.text.now c.args.words.now c.args.places.now c.from_residual.result c.args.words.now c.args.places.now
           (search rules) (search rules) (search rules);
-      near = near_answered c.args.text.now (length c.args.words.now) (length c.args.places.now) c.from-residual.result (search rules);
+      near = near_answered c.args.text.now (length c.args.words.now) (length c.args.places.now) c.from_residual.result (search rules);
     }
 
-pub returns-in-err-bytes : goal.returns-in-err-bytes
-returns-in-err-bytes c =
+pub returns-in_err-bytes : goal.returns-in_err-bytes
+returns-in_err-bytes c =
     record {
       answer = search rules;
       words = search rules;
       places = search rules;
-      grammar = grammar_held c.args.text.now c.args.words.now c.args.places.now c.from-residual-in-err-bytes.result c.read-body.new.words c.read-body.new.places
+      grammar = grammar_held c.args.text.now c.args.words.now c.args.places.now c.from_residual-in_err-bytes.result c.read_body.new.words c.read_body.new.places
           (search rules) (search rules) (search rules);
-      near = near_answered c.args.text.now (length c.args.words.now) (length c.args.places.now) c.from-residual-in-err-bytes.result (search rules);
+      near = near_answered c.args.text.now (length c.args.words.now) (length c.args.places.now) c.from_residual-in_err-bytes.result (search rules);
     }
 
 pub returns : goal.returns
 returns c =
-    let whole = read_behind c.args.text.now (length c.args.words.now) (length c.args.places.now) c.in-ok-head.head (search rules)
-    (sym c.in-ok-head.ensures.value) in
-    let answer = answer_behind c.args.text.now c.in-ok-head.head c.in-ok-bytes.bytes c.in-ok-bytes.ensures.answer ∙ sym (ap answer_of whole) in
-    let words = c.read-body.ensures.words ∙ sym (ap (λ r. words_after r c.args.words.now) whole) in
-    let places = c.read-body.ensures.places ∙ sym (ap (λ r. places_after r c.args.places.now) whole) in
+    let whole = read_behind c.args.text.now (length c.args.words.now) (length c.args.places.now) c.in_ok-head.head (search rules)
+    (sym c.in_ok-head.ensures.value) in
+    let answer = answer_behind c.args.text.now c.in_ok-head.head c.in_ok-bytes.bytes c.in_ok-bytes.ensures.answer ∙ sym (ap answer_of whole) in
+    let words = c.read_body.ensures.words ∙ sym (ap (λ r. words_after r c.args.words.now) whole) in
+    let places = c.read_body.ensures.places ∙ sym (ap (λ r. places_after r c.args.places.now) whole) in
     record {
       answer = answer;
       words = words;
       places = places;
-      grammar = grammar_held c.args.text.now c.args.words.now c.args.places.now _ c.read-body.new.words c.read-body.new.places answer words places;
+      grammar = grammar_held c.args.text.now c.args.words.now c.args.places.now _ c.read_body.new.words c.read_body.new.places answer words places;
       near = tt;
     }

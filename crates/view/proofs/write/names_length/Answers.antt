@@ -9,8 +9,8 @@ use Rattle.view.proofs.write.names_length.Goals as goal
 
 pub loop-index-preserved : goal.loop-index-preserved
 loop-index-preserved c =
-    let same : length c.name-at.result.bytes.now ≡ length (part_at c.args.view.now.text.now (get_or c.args.view.now.places.now c.loop-index.index absent)) =
-    ap length (c.name-at.ensures.bytes ∙ ap (part_at c.args.view.now.text.now) c.name-at.ensures.place) in
+    let same : length c.name_at.result.bytes.now ≡ length (part_at c.args.view.now.text.now (get_or c.args.view.now.places.now c.loop-index.index absent)) =
+    ap length (c.name_at.ensures.bytes ∙ ap (part_at c.args.view.now.text.now) c.name_at.ensures.place) in
     let lt : c.loop-index.index < length c.args.view.now.places.now = omega (arith, (fit_parts _ c.args.view.now.words.now _ c.args.view.now.fit).enough) in
     let step = length_names_step c.args.view.now.text.now c.args.view.now.places.now c.loop-index.index absent lt in
     let short = fit_short c.args.view.now.text.now c.args.view.now.words.now c.args.view.now.places.now c.loop-index.index absent c.args.view.now.fit lt in

@@ -11,10 +11,10 @@ use Rattle.view.proofs.write.put_names.Goals as goal
 pub loop-index-init : goal.loop-index-init
 loop-index-init c = wrote_none c.args.start c.args.out.now (omega arith)
 
-pub put-line-requires : goal.put-line-requires
-put-line-requires c =
-    let same : c.name-at.result.bytes.now ≡ part_at c.args.view.now.text.now (get_or c.args.view.now.places.now c.loop-index.index absent) =
-    c.name-at.ensures.bytes ∙ ap (part_at c.args.view.now.text.now) c.name-at.ensures.place in
+pub put_line-requires : goal.put_line-requires
+put_line-requires c =
+    let same : c.name_at.result.bytes.now ≡ part_at c.args.view.now.text.now (get_or c.args.view.now.places.now c.loop-index.index absent) =
+    c.name_at.ensures.bytes ∙ ap (part_at c.args.view.now.text.now) c.name_at.ensures.place in
     let lt : c.loop-index.index < length c.args.view.now.places.now = omega (arith, (fit_parts _ c.args.view.now.words.now _ c.args.view.now.fit).enough) in
     subst (λ bs. c.loop-index.at + length (line bs) ≤ length c.loop-index.out) (sym same)
     (step_room (λ p. line (part_at c.args.view.now.text.now p)) c.args.view.now.places.now c.loop-index.index absent
@@ -22,15 +22,15 @@ put-line-requires c =
 
 pub loop-index-preserved : goal.loop-index-preserved
 loop-index-preserved c =
-    let same : c.name-at.result.bytes.now ≡ part_at c.args.view.now.text.now (get_or c.args.view.now.places.now c.loop-index.index absent) =
-    c.name-at.ensures.bytes ∙ ap (part_at c.args.view.now.text.now) c.name-at.ensures.place in
+    let same : c.name_at.result.bytes.now ≡ part_at c.args.view.now.text.now (get_or c.args.view.now.places.now c.loop-index.index absent) =
+    c.name_at.ensures.bytes ∙ ap (part_at c.args.view.now.text.now) c.name_at.ensures.place in
     let lt : c.loop-index.index < length c.args.view.now.places.now = omega (arith, (fit_parts _ c.args.view.now.words.now _ c.args.view.now.fit).enough) in
-    let granted = c.in-ok-at.ensures.answer in
-    let next : c.in-ok-at.at ≡ c.loop-index.at + length (line c.name-at.result.bytes.now) = cc in
+    let granted = c.in_ok-at.ensures.answer in
+    let next : c.in_ok-at.at ≡ c.loop-index.at + length (line c.name_at.result.bytes.now) = cc in
     step_wrote (λ p. line (part_at c.args.view.now.text.now p)) c.args.view.now.places.now c.loop-index.index absent
-    c.args.start c.args.out.now c.loop-index.out c.put-line.new.out c.loop-index.at c.in-ok-at.at lt c.requires c.loop-index.invariant
+    c.args.start c.args.out.now c.loop-index.out c.put_line.new.out c.loop-index.at c.in_ok-at.at lt c.requires c.loop-index.invariant
     (next ∙ ap (λ bs. c.loop-index.at + length (line bs)) same)
-    (c.put-line.ensures.output ∙ ap (λ bs. put_at c.loop-index.at (line bs) c.loop-index.out) same)
+    (c.put_line.ensures.output ∙ ap (λ bs. put_at c.loop-index.at (line bs) c.loop-index.out) same)
 
 pub returns : goal.returns
 returns c =

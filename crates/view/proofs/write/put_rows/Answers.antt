@@ -8,11 +8,11 @@ use Rattle.view.proofs.write.put_rows.Goals as goal
 pub loop-word-init : goal.loop-word-init
 loop-word-init c = wrote_none c.args.start c.args.out.now (omega arith)
 
-pub put-line-requires : goal.put-line-requires
-put-line-requires c =
+pub put_line-requires : goal.put_line-requires
+put_line-requires c =
     let whole : c.args.signals - 0 ≡ c.args.signals = omega arith in
-    let same : take (c.args.signals - 0) c.row-cells-row.result ≡ cells c.args.signals (get_or c.args.words.now c.loop-word.word-index 0) =
-    ap (λ n. take n c.row-cells-row.result) whole ∙ c.row-cells-row.ensures.row in
+    let same : take (c.args.signals - 0) c.row_cells-row.result ≡ cells c.args.signals (get_or c.args.words.now c.loop-word.word-index 0) =
+    ap (λ n. take n c.row_cells-row.result) whole ∙ c.row_cells-row.ensures.row in
     subst (λ bs. c.loop-word.at + length (line bs) ≤ length c.loop-word.out) (sym same)
     (step_room (λ w. line (cells c.args.signals w)) c.args.words.now c.loop-word.word-index 0
     c.args.start c.args.out.now c.loop-word.out c.loop-word.at c.loop-word-test.true c.requires.room c.loop-word.invariant)
@@ -20,14 +20,14 @@ put-line-requires c =
 pub loop-word-preserved : goal.loop-word-preserved
 loop-word-preserved c =
     let whole : c.args.signals - 0 ≡ c.args.signals = omega arith in
-    let same : take (c.args.signals - 0) c.row-cells-row.result ≡ cells c.args.signals (get_or c.args.words.now c.loop-word.word-index 0) =
-    ap (λ n. take n c.row-cells-row.result) whole ∙ c.row-cells-row.ensures.row in
-    let granted = c.in-ok-at.ensures.answer in
-    let next : c.in-ok-at.at ≡ c.loop-word.at + length (line (take (c.args.signals - 0) c.row-cells-row.result)) = cc in
+    let same : take (c.args.signals - 0) c.row_cells-row.result ≡ cells c.args.signals (get_or c.args.words.now c.loop-word.word-index 0) =
+    ap (λ n. take n c.row_cells-row.result) whole ∙ c.row_cells-row.ensures.row in
+    let granted = c.in_ok-at.ensures.answer in
+    let next : c.in_ok-at.at ≡ c.loop-word.at + length (line (take (c.args.signals - 0) c.row_cells-row.result)) = cc in
     step_wrote (λ w. line (cells c.args.signals w)) c.args.words.now c.loop-word.word-index 0
-    c.args.start c.args.out.now c.loop-word.out c.put-line.new.out c.loop-word.at c.in-ok-at.at c.loop-word-test.true c.requires.room c.loop-word.invariant
+    c.args.start c.args.out.now c.loop-word.out c.put_line.new.out c.loop-word.at c.in_ok-at.at c.loop-word-test.true c.requires.room c.loop-word.invariant
     (next ∙ ap (λ bs. c.loop-word.at + length (line bs)) same)
-    (c.put-line.ensures.output ∙ ap (λ bs. put_at c.loop-word.at (line bs) c.loop-word.out) same)
+    (c.put_line.ensures.output ∙ ap (λ bs. put_at c.loop-word.at (line bs) c.loop-word.out) same)
 
 pub returns : goal.returns
 returns c =
