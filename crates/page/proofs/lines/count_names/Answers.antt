@@ -14,13 +14,13 @@ pub loop-signal-preserved : goal.loop-signal-preserved
 loop-signal-preserved c =
     let names = signal_names c.args.view.now.text.now c.args.view.now.words.now c.args.view.now.places.now in
     let lt : c.loop-signal.signal < length names = omega arith in
-    let same : c.signal-name.result.bytes.now ≡ get_or names c.loop-signal.signal [] =
-    name_shown c.args.view.now.text.now c.args.view.now.words.now c.args.view.now.places.now c.loop-signal.signal lt c.signal-name.result.bytes.now c.signal-name.result.place
-    c.signal-name.ensures.place c.signal-name.ensures.bytes in
+    let same : c.signal_name.result.bytes.now ≡ get_or names c.loop-signal.signal [] =
+    name_shown c.args.view.now.text.now c.args.view.now.words.now c.args.view.now.places.now c.loop-signal.signal lt c.signal_name.result.bytes.now c.signal_name.result.place
+    c.signal_name.ensures.place c.signal_name.ensures.bytes in
     let small : length (get_or names c.loop-signal.signal []) ≤ 40 =
     name_small c.args.view.now.text.now c.args.view.now.words.now c.args.view.now.places.now c.loop-signal.signal lt c.args.view.now.fit in
     counted_more c.args.set names c.loop-signal.signal c.loop-signal.count c.loop-signal.bytes c.requires lt c.loop-signal.invariant
-    (c.has.ensures.told.0 c.if-not-has.false) (length c.signal-name.result.bytes.now) (ap length same) (omega (arith, ap length same))
+    (c.has.ensures.told.0 c.if-not-has.false) (length c.signal_name.result.bytes.now) (ap length same) (omega (arith, ap length same))
 
 pub returns : goal.returns
 returns c =

@@ -15,28 +15,28 @@ loop-signal-preserved-then-not-has c =
     subst (λ xs. Wrote c.args.start (name_fields xs) c.args.out.now c.loop-signal.out c.loop-signal.at)
     (sym (chosen_same c.args.set names c.loop-signal.signal c.requires.whole lt (lacks c.has.result _ c.has.ensures.told c.if-not-has.true))) c.loop-signal.invariant
 
-pub put-name-requires : goal.put-name-requires
-put-name-requires c =
+pub put_name-requires : goal.put_name-requires
+put_name-requires c =
     let names = signal_names c.args.view.now.text.now c.args.view.now.words.now c.args.view.now.places.now in
     let lt : c.loop-signal.signal < length names = omega (arith, c.requires.whole) in
-    let same : c.signal-name.result.bytes.now ≡ get_or names c.loop-signal.signal [] =
-    name_shown c.args.view.now.text.now c.args.view.now.words.now c.args.view.now.places.now c.loop-signal.signal lt c.signal-name.result.bytes.now c.signal-name.result.place
-    c.signal-name.ensures.place c.signal-name.ensures.bytes in
+    let same : c.signal_name.result.bytes.now ≡ get_or names c.loop-signal.signal [] =
+    name_shown c.args.view.now.text.now c.args.view.now.words.now c.args.view.now.places.now c.loop-signal.signal lt c.signal_name.result.bytes.now c.signal_name.result.place
+    c.signal_name.ensures.place c.signal_name.ensures.bytes in
     name_room c.args.set names c.loop-signal.signal c.requires.whole lt (c.has.ensures.told.0 c.if-not-has.false)
-    c.args.start c.args.out.now c.loop-signal.out c.loop-signal.at c.requires.room c.loop-signal.invariant c.signal-name.result.bytes.now same
+    c.args.start c.args.out.now c.loop-signal.out c.loop-signal.at c.requires.room c.loop-signal.invariant c.signal_name.result.bytes.now same
 
 pub loop-signal-preserved : goal.loop-signal-preserved
 loop-signal-preserved c =
     let names = signal_names c.args.view.now.text.now c.args.view.now.words.now c.args.view.now.places.now in
     let lt : c.loop-signal.signal < length names = omega (arith, c.requires.whole) in
-    let same : c.signal-name.result.bytes.now ≡ get_or names c.loop-signal.signal [] =
-    name_shown c.args.view.now.text.now c.args.view.now.words.now c.args.view.now.places.now c.loop-signal.signal lt c.signal-name.result.bytes.now c.signal-name.result.place
-    c.signal-name.ensures.place c.signal-name.ensures.bytes in
-    let granted = c.in-ok-at.ensures.answer in
-    let next : c.in-ok-at.at ≡ c.loop-signal.at + length (44 ∷ c.signal-name.result.bytes.now) = cc in
+    let same : c.signal_name.result.bytes.now ≡ get_or names c.loop-signal.signal [] =
+    name_shown c.args.view.now.text.now c.args.view.now.words.now c.args.view.now.places.now c.loop-signal.signal lt c.signal_name.result.bytes.now c.signal_name.result.place
+    c.signal_name.ensures.place c.signal_name.ensures.bytes in
+    let granted = c.in_ok-at.ensures.answer in
+    let next : c.in_ok-at.at ≡ c.loop-signal.at + length (44 ∷ c.signal_name.result.bytes.now) = cc in
     name_wrote c.args.set names c.loop-signal.signal c.requires.whole lt (c.has.ensures.told.0 c.if-not-has.false)
-    c.args.start c.args.out.now c.loop-signal.out c.loop-signal.at c.requires.room c.loop-signal.invariant c.signal-name.result.bytes.now same
-    c.put-name.new.out c.in-ok-at.at next c.put-name.ensures.output
+    c.args.start c.args.out.now c.loop-signal.out c.loop-signal.at c.requires.room c.loop-signal.invariant c.signal_name.result.bytes.now same
+    c.put_name.new.out c.in_ok-at.at next c.put_name.ensures.output
 
 pub returns : goal.returns
 returns c =

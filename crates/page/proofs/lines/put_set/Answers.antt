@@ -5,17 +5,17 @@ use Rattle.page.specs.Pages.{chosen, name_fields, signal_names}
 use Rattle.page.proofs.SetLines.{toNames, line-is, room_line, room_names, room_start}
 use Rattle.page.proofs.lines.put_set.Goals as goal
 
-pub put-numbers-requires : goal.put-numbers-requires
-put-numbers-requires c = room_start c.args.place c.args.count _ c.requires.counted c.args.at _ c.requires.room
+pub put_numbers-requires : goal.put_numbers-requires
+put_numbers-requires c = room_start c.args.place c.args.count _ c.requires.counted c.args.at _ c.requires.room
 
-pub put-names-requires : goal.put-names-requires
-put-names-requires c =
+pub put_names-requires : goal.put_names-requires
+put_names-requires c =
     let names = chosen c.args.set.width c.args.set.word (signal_names c.args.view.now.text.now c.args.view.now.words.now c.args.view.now.places.now) in
     let start = toNames c.args.place c.args.count in
-    let granted = c.in-ok-at.ensures.answer in
-    let next : c.in-ok-at.at ≡ c.args.at + length start = cc in
-    let w1 : Wrote c.args.at start c.args.out.now c.put-numbers.new.out c.in-ok-at.at =
-    record { whole = c.put-numbers.ensures.output; behind = next; room = room_start c.args.place c.args.count names c.requires.counted c.args.at _ c.requires.room } in
+    let granted = c.in_ok-at.ensures.answer in
+    let next : c.in_ok-at.at ≡ c.args.at + length start = cc in
+    let w1 : Wrote c.args.at start c.args.out.now c.put_numbers.new.out c.in_ok-at.at =
+    record { whole = c.put_numbers.ensures.output; behind = next; room = room_start c.args.place c.args.count names c.requires.counted c.args.at _ c.requires.room } in
     record {
       whole = c.requires.whole;
       room = wrote_room c.args.at start (name_fields names) _ _ _ w1 (room_names c.args.place c.args.count names c.requires.counted c.args.at _ c.requires.room);
@@ -25,14 +25,14 @@ pub returns : goal.returns
 returns c =
     let names = chosen c.args.set.width c.args.set.word (signal_names c.args.view.now.text.now c.args.view.now.words.now c.args.view.now.places.now) in
     let start = toNames c.args.place c.args.count in
-    let granted = c.in-ok-at.ensures.answer in
-    let next : c.in-ok-at.at ≡ c.args.at + length start = cc in
-    let w1 : Wrote c.args.at start c.args.out.now c.put-numbers.new.out c.in-ok-at.at =
-    record { whole = c.put-numbers.ensures.output; behind = next; room = room_start c.args.place c.args.count names c.requires.counted c.args.at _ c.requires.room } in
-    let more = c.in-ok-at-2.ensures.answer in
-    let last : c.in-ok-at-2.at ≡ c.in-ok-at.at + length (name_fields names) = cc in
-    let w2 : Wrote c.args.at (start ++ name_fields names) c.args.out.now c.put-names.new.out c.in-ok-at-2.at =
-    wrote_more c.args.at start (name_fields names) _ _ _ _ _ w1 (room_names c.args.place c.args.count names c.requires.counted c.args.at _ c.requires.room) last c.put-names.ensures.output in
+    let granted = c.in_ok-at.ensures.answer in
+    let next : c.in_ok-at.at ≡ c.args.at + length start = cc in
+    let w1 : Wrote c.args.at start c.args.out.now c.put_numbers.new.out c.in_ok-at.at =
+    record { whole = c.put_numbers.ensures.output; behind = next; room = room_start c.args.place c.args.count names c.requires.counted c.args.at _ c.requires.room } in
+    let more = c.in_ok-at-2.ensures.answer in
+    let last : c.in_ok-at-2.at ≡ c.in_ok-at.at + length (name_fields names) = cc in
+    let w2 : Wrote c.args.at (start ++ name_fields names) c.args.out.now c.put_names.new.out c.in_ok-at-2.at =
+    wrote_more c.args.at start (name_fields names) _ _ _ _ _ w1 (room_names c.args.place c.args.count names c.requires.counted c.args.at _ c.requires.room) last c.put_names.ensures.output in
     let room = room_line c.args.place c.args.count names c.requires.counted c.args.at _ c.requires.room in
     let same = line-is c.args.place c.args.count names c.requires.counted in
     record {

@@ -21,13 +21,13 @@ loop-listed-init g c = (
   refl,
 )
 
-pub returns-in-default : goal.returns-in-default
-returns-in-default g c =
+pub returns-in_default : goal.returns-in_default
+returns-in_default g c =
     let f = filling_opened g.O.Operator.span g.O.Operator.means c.args.operator c.open-survey.result.operator c.open-survey.result.width c.open-survey.ensures.operator c.open-survey.ensures.width c.loop-listed.survey.state (entries c.loop-listed.tray) c.loop-listed.invariant.2 in
     let room : capacity c.loop-listed.tray ≡ capacity c.args.tray.now = ap (λ n. min n max_entries) (c.loop-listed.invariant.3 ∙ ap length c.clear.ensures.memory) in
-    let ended = step_ended (g.O.Operator.span c.args.operator) (g.O.Operator.span c.args.operator) (g.O.Operator.means c.args.operator) c.loop-listed.survey.state c.in-default.field-0 c.step.new.self.state refl
-    (does_opened g.O.Operator.span g.O.Operator.means c.args.operator c.open-survey.result.operator c.open-survey.result.width c.open-survey.ensures.operator c.open-survey.ensures.width c.loop-listed.survey.operator c.loop-listed.survey.width c.loop-listed.survey.state (Refused c.in-default.field-0)
-    c.step.new.self.state c.loop-listed.invariant.0 c.loop-listed.invariant.1 c.in-default.ensures.takes.does) in
+    let ended = step_ended (g.O.Operator.span c.args.operator) (g.O.Operator.span c.args.operator) (g.O.Operator.means c.args.operator) c.loop-listed.survey.state c.in_default.field-0 c.step.new.self.state refl
+    (does_opened g.O.Operator.span g.O.Operator.means c.args.operator c.open-survey.result.operator c.open-survey.result.width c.open-survey.ensures.operator c.open-survey.ensures.width c.loop-listed.survey.operator c.loop-listed.survey.width c.loop-listed.survey.state (Refused c.in_default.field-0)
+    c.step.new.self.state c.loop-listed.invariant.0 c.loop-listed.invariant.1 c.in_default.ensures.takes.does) in
     let q = filled_all (g.O.Operator.span c.args.operator) (capacity c.args.tray.now) (g.O.Operator.means c.args.operator) c.loop-listed.survey.state (entries c.loop-listed.tray) f ended
     (subst (λ n. length (entries c.loop-listed.tray) ≤ n) room (entries_few c.loop-listed.tray)) in
     record {
@@ -45,7 +45,7 @@ loop-listed-preserved g c =
     let s = stepped (g.O.Operator.span c.args.operator) (g.O.Operator.span c.args.operator) (g.O.Operator.means c.args.operator) c.loop-listed.survey.state c.in-Ok.listed.0 c.in-Ok.listed.1 c.in-Ok.listed.2 c.step.new.self.state refl
     (does_opened g.O.Operator.span g.O.Operator.means c.args.operator c.open-survey.result.operator c.open-survey.result.width c.open-survey.ensures.operator c.open-survey.ensures.width c.loop-listed.survey.operator c.loop-listed.survey.width c.loop-listed.survey.state (Listed c.in-Ok.listed.0 c.in-Ok.listed.1 c.in-Ok.listed.2)
     c.step.new.self.state c.loop-listed.invariant.0 c.loop-listed.invariant.1 c.in-Ok.ensures.takes.does) in
-    let put = c.in-ok-put.ensures.answer in
+    let put = c.in_ok-put.ensures.answer in
     let more = subst (λ xs. Filling (g.O.Operator.span c.args.operator) (g.O.Operator.means c.args.operator) c.step.new.self.state xs) (sym put.1)
     (filling_more (g.O.Operator.span c.args.operator) (g.O.Operator.means c.args.operator) c.loop-listed.survey.state (entries c.loop-listed.tray) c.in-Ok.listed.0 c.step.new.self.state f s) in (
       c.step.ensures.takes.operator ∙ c.loop-listed.invariant.0,
@@ -57,17 +57,17 @@ loop-listed-preserved g c =
       c.put.ensures.link ∙ c.loop-listed.invariant.5,
     )
 
-pub returns-in-err-put : goal.returns-in-err-put
-returns-in-err-put g c =
+pub returns-in_err-put : goal.returns-in_err-put
+returns-in_err-put g c =
     let f = filling_opened g.O.Operator.span g.O.Operator.means c.args.operator c.open-survey.result.operator c.open-survey.result.width c.open-survey.ensures.operator c.open-survey.ensures.width c.loop-listed.survey.state (entries c.loop-listed.tray) c.loop-listed.invariant.2 in
     let room : capacity c.loop-listed.tray ≡ capacity c.args.tray.now = ap (λ n. min n max_entries) (c.loop-listed.invariant.3 ∙ ap length c.clear.ensures.memory) in
     let s = stepped (g.O.Operator.span c.args.operator) (g.O.Operator.span c.args.operator) (g.O.Operator.means c.args.operator) c.loop-listed.survey.state c.in-Ok.listed.0 c.in-Ok.listed.1 c.in-Ok.listed.2 c.step.new.self.state refl
     (does_opened g.O.Operator.span g.O.Operator.means c.args.operator c.open-survey.result.operator c.open-survey.result.width c.open-survey.ensures.operator c.open-survey.ensures.width c.loop-listed.survey.operator c.loop-listed.survey.width c.loop-listed.survey.state (Listed c.in-Ok.listed.0 c.in-Ok.listed.1 c.in-Ok.listed.2)
     c.step.new.self.state c.loop-listed.invariant.0 c.loop-listed.invariant.1 c.in-Ok.ensures.takes.does) in
-    let put = c.in-err-put.ensures.answer in
+    let put = c.in_err-put.ensures.answer in
     let q = filled_some (g.O.Operator.span c.args.operator) (capacity c.args.tray.now) (g.O.Operator.means c.args.operator) c.loop-listed.survey.state (entries c.loop-listed.tray) c.in-Ok.listed.0 c.step.new.self.state f s (put.0 ∙ room) in
-    let p = err_from_is_err_and c.from-residual.result c.from-residual.ensures.1 in
-    let same : c.from-residual.result ≡ Err c.in-err-put.field-0.0 = p.1 ∙ ap Err p.2 in
+    let p = err_from_is_err_and c.from_residual.result c.from_residual.ensures.1 in
+    let same : c.from_residual.result ≡ Err c.in_err-put.field-0.0 = p.1 ∙ ap Err p.2 in
     let tray = put.1 in
     record {
       sets = ap (λ t. words_of (entries t)) tray ∙ q.0;

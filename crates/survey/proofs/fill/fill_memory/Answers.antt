@@ -8,7 +8,7 @@ use Rattle.survey.proofs.fill.fill_memory.Goals as goal
 
 pub returns : goal.returns
 returns g c =
-    let f = c.in-ok-fill.ensures in
+    let f = c.in_ok-fill.ensures in
     let room : capacity c.new-tray.result ≡ min (length c.args.memory.now) max_entries = ap (λ xs. min (length xs) max_entries) c.new-tray.ensures.memory in
     let all = closed_below (g.O.Operator.means c.args.operator) (2 ^ g.O.Operator.span c.args.operator) in
     let words = f.sets ∙ ap (λ n. take n all) room in

@@ -13,7 +13,7 @@ loop-call-preserved g c = (
       c.loop-call.survey.operator c.loop-call.survey.width c.loop-call.call-index _ _
       c.call-item.result c.answer.result c.loop-call.survey.state c.answer.new.self.state c.loop-call.invariant.0
       (c.loop-call.invariant.1 ∙ c.open-survey.ensures.width ∙ ap g.O.Operator.span (sym c.open-survey.ensures.operator))
-      c.loop-call-test.true c.call-item.is c.in-ok-push.ensures.items c.answer.ensures.takes.does c.loop-call.invariant.2,
+      c.loop-call-test.true c.call-item.is c.in_ok-push.ensures.items c.answer.ensures.takes.does c.loop-call.invariant.2,
 )
 
 pub returns : goal.returns

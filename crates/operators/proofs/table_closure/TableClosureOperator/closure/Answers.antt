@@ -7,7 +7,7 @@ use Rattle.operators.proofs.table_closure.TableClosureOperator.closure.Goals as 
 
 pub with_word-requires : goal.with_word-requires
 with_word-requires c =
-    let e = told-common c.signals_in_common.ensures.common c.width-2.ensures.value c.words.ensures.words c.word.ensures.value in
+    let e = told-common c.common_signals.ensures.common c.width-2.ensures.value c.words.ensures.words c.word.ensures.value in
     omega (arith, common_lt c.args.set.width c.args.self.now.view.words.now c.args.set.word)
 
 pub returns : goal.returns
@@ -15,7 +15,7 @@ returns c =
     let rows = c.args.self.now.view.words.now in
     let same : c.with_word.result.word ≡ common c.args.set.width rows c.args.set.word =
     c.with_word.ensures.word
-    ∙ told-common c.signals_in_common.ensures.common c.width-2.ensures.value c.words.ensures.words c.word.ensures.value in
+    ∙ told-common c.common_signals.ensures.common c.width-2.ensures.value c.words.ensures.words c.word.ensures.value in
     record {
       width = c.with_word.ensures.width;
       closed = λ e. same ∙ ap (λ m. common m rows c.args.set.word) e;

@@ -7,7 +7,7 @@ use Rattle.page.proofs.page.Page.foot.Goals as goal
 pub returns : goal.returns
 returns c =
     record {
-      answer = c.put-record.ensures.answer;
-      output = c.put-record.ensures.output;
-      granted = λ room. c.put-record.ensures.answer ∙ answer_fits c.args.self.at (foot c.args.self.lines) c.args.out.now (omega (arith, foot_short c.args.self.lines c.args.self.few));
+      answer = c.put_record.ensures.answer;
+      output = c.put_record.ensures.output;
+      granted = λ room. c.put_record.ensures.answer ∙ answer_fits c.args.self.at (foot c.args.self.lines) c.args.out.now (omega (arith, foot_short c.args.self.lines c.args.self.few));
     }

@@ -11,8 +11,8 @@ returns-then-width-signals c =
     (width-other c.args.view.now.text.now c.args.view.now.words.now c.args.view.now.places.now c.args.set c.width.result c.signals.result c.width.ensures.value c.signals.ensures.count c.if-width-signals.true) in
     record { answer = o.answer; output = o.output; at = o.behind; lines = o.number; reserved = o.reserved }
 
-pub count-names-count-requires : goal.count-names-count-requires
-count-names-count-requires c =
+pub count_names-count-requires : goal.count_names-count-requires
+count_names-count-requires c =
     width_same c.args.view.now.text.now c.args.view.now.words.now c.args.view.now.places.now c.args.set c.width.result c.signals.result c.width.ensures.value c.signals.ensures.count c.if-width-signals.false
 
 pub returns-then-not-takes : goal.returns-then-not-takes
@@ -20,21 +20,21 @@ returns-then-not-takes c =
     let names = signal_names c.args.view.now.text.now c.args.view.now.words.now c.args.view.now.places.now in
     let same : c.args.set.width ≡ length names =
     width_same c.args.view.now.text.now c.args.view.now.words.now c.args.view.now.places.now c.args.set c.width.result c.signals.result c.width.ensures.value c.signals.ensures.count c.if-width-signals.false in
-    let long = line-long names c.args.self.now c.args.place c.args.set c.args.out.now same c.count-names-count.result.0 c.count-names-count.result.1 c.digits.result c.digits-2.result
-    c.count-names-count.ensures.names c.count-names-count.ensures.fields c.digits.ensures.count c.digits-2.ensures.count in
+    let long = line-long names c.args.self.now c.args.place c.args.set c.args.out.now same c.count_names-count.result.0 c.count_names-count.result.1 c.digits.result c.digits-2.result
+    c.count_names-count.ensures.names c.count_names-count.ensures.fields c.digits.ensures.count c.digits-2.ensures.count in
     let o = no_room names c.args.self.now c.args.place c.args.set c.args.out.now same _ long c.takes.result c.takes.ensures.answer c.if-not-takes.true in
     record { answer = o.answer; output = o.output; at = o.behind; lines = o.number; reserved = o.reserved }
 
-pub put-set-requires : goal.put-set-requires
-put-set-requires c =
+pub put_set-requires : goal.put_set-requires
+put_set-requires c =
     let names = signal_names c.args.view.now.text.now c.args.view.now.words.now c.args.view.now.places.now in
     let same : c.args.set.width ≡ length names =
     width_same c.args.view.now.text.now c.args.view.now.words.now c.args.view.now.places.now c.args.set c.width.result c.signals.result c.width.ensures.value c.signals.ensures.count c.if-width-signals.false in
-    let long = line-long names c.args.self.now c.args.place c.args.set c.args.out.now same c.count-names-count.result.0 c.count-names-count.result.1 c.digits.result c.digits-2.result
-    c.count-names-count.ensures.names c.count-names-count.ensures.fields c.digits.ensures.count c.digits-2.ensures.count in
+    let long = line-long names c.args.self.now c.args.place c.args.set c.args.out.now same c.count_names-count.result.0 c.count_names-count.result.1 c.digits.result c.digits-2.result
+    c.count_names-count.ensures.names c.count_names-count.ensures.fields c.digits.ensures.count c.digits-2.ensures.count in
     record {
       whole = same;
-      counted = c.count-names-count.ensures.names;
+      counted = c.count_names-count.ensures.names;
       room = line_room names c.args.self.now c.args.place c.args.set c.args.out.now same _ long c.takes.result c.takes.ensures.answer c.if-not-takes.false;
     }
 
@@ -43,10 +43,10 @@ returns c =
     let names = signal_names c.args.view.now.text.now c.args.view.now.words.now c.args.view.now.places.now in
     let same : c.args.set.width ≡ length names =
     width_same c.args.view.now.text.now c.args.view.now.words.now c.args.view.now.places.now c.args.set c.width.result c.signals.result c.width.ensures.value c.signals.ensures.count c.if-width-signals.false in
-    let long = line-long names c.args.self.now c.args.place c.args.set c.args.out.now same c.count-names-count.result.0 c.count-names-count.result.1 c.digits.result c.digits-2.result
-    c.count-names-count.ensures.names c.count-names-count.ensures.fields c.digits.ensures.count c.digits-2.ensures.count in
-    let granted = c.in-ok-self.ensures.answer in
-    let behind : c.in-ok-self.field-0 ≡ c.args.self.now.at + length (line names c.args.self.now c.args.place c.args.set c.args.out.now) = cc in
+    let long = line-long names c.args.self.now c.args.place c.args.set c.args.out.now same c.count_names-count.result.0 c.count_names-count.result.1 c.digits.result c.digits-2.result
+    c.count_names-count.ensures.names c.count_names-count.ensures.fields c.digits.ensures.count c.digits-2.ensures.count in
+    let granted = c.in_ok-self.ensures.answer in
+    let behind : c.in_ok-self.field-0 ≡ c.args.self.now.at + length (line names c.args.self.now c.args.place c.args.set c.args.out.now) = cc in
     let o = taken names c.args.self.now c.args.place c.args.set c.args.out.now same _ long c.takes.result c.takes.ensures.answer c.if-not-takes.false
-    c.put-set.new.out c.in-ok-self.field-0 c.put-set.ensures.output behind in
+    c.put_set.new.out c.in_ok-self.field-0 c.put_set.ensures.output behind in
     record { answer = o.answer; output = o.output; at = o.behind; lines = o.number; reserved = o.reserved }
