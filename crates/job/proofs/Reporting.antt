@@ -112,11 +112,11 @@ refused_reading (Err f) e is = let same : e ≡ f = cc in ap Err (sym same)
 pub reading_refused : (text : List ℕ) (size : ℕ) (before after : List ℕ) (r : Result Contents TableFault) (e : TableFault) (answer : Result ℕ JobFault)
     → Err e ≡ answer_of r → answer ≡ Err (Table e) → Near (tables.fault_of e)
     → (answer ≡ count_of (fitted text size r)) × Reports (fitted text size r) before after × IfErr answer (λ x. Lined x)
-reading_refused text size before after r e answer is answer-is near =
+reading_refused text size before after r e answer is answer_is near =
     let same = refused_reading r e is in (
-      answer-is ∙ sym (ap (λ x. count_of (fitted text size x)) same),
+      answer_is ∙ sym (ap (λ x. count_of (fitted text size x)) same),
       subst (λ x. Reports (fitted text size x) before after) (sym same) tt,
-      subst (λ x. IfErr x (λ y. Lined y)) (sym answer-is) near,
+      subst (λ x. IfErr x (λ y. Lined y)) (sym answer_is) near,
     )
 
 -- the line and the text that are put are those of the report

@@ -9,17 +9,17 @@ use Rattle.output.proofs.Writing.{Wrote, length_wrote, wrote_none, wrote_more}
 use Rattle.page.specs.declared.faults.PageFault.{PageFault}
 use Rattle.page.specs.declared.faults.PageFault.TheVariants.{Output as OfOutput}
 use Rattle.page.specs.declared.page.Page.{Page}
-use Rattle.page.specs.Pages.{at_after, fits_before, lines_after, max_lines, output_after, reserve, setAnswer, set_line_of, takes_line, takesSet}
+use Rattle.page.specs.Pages.{at_after, fits_before, lines_after, max_lines, output_after, reserve, set_answer, set_line_of, takes_line, takes_set}
 use Rattle.sets.specs.declared.set.Set.{Set}
 use Rattle.survey.specs.Fills.{words_of}
 use Rattle.job.specs.Closed.{lines_of_sets}
 
 -- the lines of two lists, one behind the other
-pub setLines-append : (names : List (List ℕ)) (place : ℕ) (xs ys : List ℕ) → lines_of_sets names place (xs ++ ys) ≡ lines_of_sets names place xs ++ lines_of_sets names (place + length xs) ys
-setLines-append names place [] ys = ap (λ p. lines_of_sets names p ys) (sym (add-zero place))
-setLines-append names place (x ∷ xs) ys =
+pub lines_of_sets_append : (names : List (List ℕ)) (place : ℕ) (xs ys : List ℕ) → lines_of_sets names place (xs ++ ys) ≡ lines_of_sets names place xs ++ lines_of_sets names (place + length xs) ys
+lines_of_sets_append names place [] ys = ap (λ p. lines_of_sets names p ys) (sym (add-zero place))
+lines_of_sets_append names place (x ∷ xs) ys =
     let next : place + 1 + length xs ≡ place + length (x ∷ xs) = omega arith in
-    ap (λ zs. set_line_of names x place ++ zs) (setLines-append names (place + 1) xs ys ∙ ap (λ p. lines_of_sets names (place + 1) xs ++ lines_of_sets names p ys) next)
+    ap (λ zs. set_line_of names x place ++ zs) (lines_of_sets_append names (place + 1) xs ys ∙ ap (λ p. lines_of_sets names (place + 1) xs ++ lines_of_sets names p ys) next)
     ∙ sym (append_assoc (set_line_of names x place) (lines_of_sets names (place + 1) xs) (lines_of_sets names (place + length (x ∷ xs)) ys))
 
 -- the bytes of the first i sets
@@ -44,7 +44,7 @@ module _ (names : List (List ℕ)) (place : ℕ) (sets : List Set) where
       let split : lines_of_sets names place (words_of sets) ≡ lines_of_sets names place some ++ lines_of_sets names (place + length some) rest =
       ap (λ xs. lines_of_sets names place (words_of xs)) (sym (take-append-drop i sets))
       ∙ ap (lines_of_sets names place) (map-append (λ s. s.word) (take i sets) (drop i sets))
-      ∙ setLines-append names place some rest in
+      ∙ lines_of_sets_append names place some rest in
       omega (arith, ap length split, length-append (lines_of_sets names place some) (lines_of_sets names (place + length some) rest))
 
   -- one set more
@@ -54,7 +54,7 @@ module _ (names : List (List ℕ)) (place : ℕ) (sets : List Set) where
       let count : length some ≡ i = length-map (take i sets) (λ s. s.word) ∙ length-take-le i sets (omega arith) in
       ap (λ xs. lines_of_sets names place (words_of xs)) (take_more sets i d lt)
       ∙ ap (lines_of_sets names place) (map-append (λ s. s.word) (take i sets) (get_or sets i d ∷ []))
-      ∙ setLines-append names place some ((get_or sets i d).word ∷ [])
+      ∙ lines_of_sets_append names place some ((get_or sets i d).word ∷ [])
       ∙ ap (λ xs. lines_of_sets names place some ++ xs) (append-nil (set_line_of names (get_or sets i d).word (place + length some)))
       ∙ ap (λ n. lines_of_sets names place some ++ set_line_of names (get_or sets i d).word (place + n)) count
 
@@ -95,14 +95,14 @@ module _ (names : List (List ℕ)) (from place : ℕ) (sets : List Set) (before 
     not_taken full = and_right _ _ full
 
     -- a granted line is the next of the listing
-    pub listing_more : (later : List ℕ) (at lines : ℕ) → Ok tt ≡ setAnswer names page here set after → later ≡ output_after names page here set after → at ≡ at_after names page here set after
+    pub listing_more : (later : List ℕ) (at lines : ℕ) → Ok tt ≡ set_answer names page here set after → later ≡ output_after names page here set after → at ≡ at_after names page here set after
         → lines ≡ lines_after names page here set after → at + reserve ≤ length later → Listing names from place sets before later (i + 1) at lines
     listing_more later at lines answer put behind number free = by_test (cases_Bool (fits_before page.at (set_line_of names set.word here) after))
       where
         by_test : (fits_before page.at (set_line_of names set.word here) after ≡ true) ⊎ (fits_before page.at (set_line_of names set.word here) after ≡ false)
             → Listing names from place sets before later (i + 1) at lines
         by_test (inl fits) =
-            let yes : takesSet names page here set after ≡ true = and_from _ _ same_width (taken fits) in
+            let yes : takes_set names page here set after ≡ true = and_from _ _ same_width (taken fits) in
             let le : page.at + length (set_line_of names set.word here) + reserve ≤ length after = leb-true _ _ fits in
             let room : from + length (first_lines names place sets i ++ set_line_of names set.word here) ≤ length before =
             omega (arith, l.written.behind, long_after, length-append (first_lines names place sets i) (set_line_of names set.word here)) in
@@ -113,18 +113,18 @@ module _ (names : List (List ℕ)) (from place : ℕ) (sets : List Set) (before 
               free = free;
             }
         by_test (inr full) =
-            let refused : setAnswer names page here set after ≡ Err (OfOutput Full) = cond-true _ _ _ same_width ∙ cond-false _ _ _ (not_taken full) in
+            let refused : set_answer names page here set after ≡ Err (OfOutput Full) = cond-true _ _ _ same_width ∙ cond-false _ _ _ (not_taken full) in
             absurd (let z : ◌≡◌ {A = ℕ} 0 1 = cc in omega arith)
 
     -- where a line is refused, all lines do not fit
-    pub listing_full : (fault : PageFault) → Err fault ≡ setAnswer names page here set after
+    pub listing_full : (fault : PageFault) → Err fault ≡ set_answer names page here set after
         → Err fault ≡ answered from (lines_of_sets names place (words_of sets)) before
     listing_full fault answer = by_test (cases_Bool (fits_before page.at (set_line_of names set.word here) after))
       where
         by_test : (fits_before page.at (set_line_of names set.word here) after ≡ true) ⊎ (fits_before page.at (set_line_of names set.word here) after ≡ false)
             → Err fault ≡ answered from (lines_of_sets names place (words_of sets)) before
         by_test (inl fits) =
-            let granted : setAnswer names page here set after ≡ Ok tt = cond-true _ _ _ same_width ∙ cond-true _ _ _ (taken fits) in
+            let granted : set_answer names page here set after ≡ Ok tt = cond-true _ _ _ same_width ∙ cond-true _ _ _ (taken fits) in
             absurd (let z : ◌≡◌ {A = ℕ} 0 1 = cc in omega arith)
         by_test (inr full) =
             let gt : length after < page.at + length (set_line_of names set.word here) + reserve = leb-false _ _ full in

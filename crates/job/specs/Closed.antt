@@ -44,20 +44,20 @@ in_job (Ok bytes) = Ok bytes
 in_job (Err e) = Err (Page e)
 
 -- the closed page of a table, whose operator has the letter G, the byte 71: the tray must have place for the sets, and then the output for the page
-abbrev pub listedParts : (text words : List ℕ) → List Place → (set_room size : ℕ) → Result (List ℕ) JobFault
-listedParts text words places set_room size =
+abbrev pub listed_parts : (text words : List ℕ) → List Place → (set_room size : ℕ) → Result (List ℕ) JobFault
+listed_parts text words places set_room size =
     cond (nat_le (length (closed_words words places)) (min set_room max_entries))
     (in_job (paged 71 (signals_of words places) (signal_names text words places) (closed_words words places) size))
     (Err (Tray NoPlace))
 
 -- the same of what was read
 abbrev pub listed : (text : List ℕ) (set_room size : ℕ) → Result Contents TableFault → Result (List ℕ) JobFault
-listed text set_room size (Ok c) = listedParts text c.words c.places set_room size
+listed text set_room size (Ok c) = listed_parts text c.words c.places set_room size
 listed text set_room size (Err e) = Err (Table e)
 
 -- the bytes of the job's page, or why it is refused
-abbrev pub closedJobOf : (text : List ℕ) (row_room place_room set_room size : ℕ) → Result (List ℕ) JobFault
-closedJobOf text row_room place_room set_room size = cond (nat_lt size 32) (Err SmallOutput) (listed text set_room size (read_of text row_room place_room))
+abbrev pub closed_job_of : (text : List ℕ) (row_room place_room set_room size : ℕ) → Result (List ℕ) JobFault
+closed_job_of text row_room place_room set_room size = cond (nat_lt size 32) (Err SmallOutput) (listed text set_room size (read_of text row_room place_room))
 
 -- the memory of the sets after reading: filled, or as before where the text was refused
 abbrev pub SetsAfter : Result Contents TableFault → (before after : List Set) → Type 0

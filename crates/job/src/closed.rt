@@ -1,5 +1,5 @@
 ghost use Rattle.std.specs.Prelude.{◌≡◌, true, length, IfErr, if◌then◌else◌, nat_lt};
-ghost use Rattle.job.specs.Closed.{SetsAfter, closedJobOf, listed, listedParts};
+ghost use Rattle.job.specs.Closed.{SetsAfter, closed_job_of, listed, listed_parts};
 ghost use Rattle.job.specs.Reports.{Lined, Reports, count_of, output_after};
 ghost use Rattle.operators.specs.TableClosure.{signals_of};
 ghost use Rattle.survey.specs.Fills.{Filled};
@@ -25,8 +25,8 @@ pub fn list_closed(
     sets: &mut [Set],
     out: &mut [u8],
 ) -> Result<usize, JobFault>
-    ensures answer { result ≡ count_of (closedJobOf text.now (length words.old) (length places.old) (length sets.old) (length out.old)) }
-    ensures output { out.new ≡ output_after (length out.old) (closedJobOf text.now (length words.old) (length places.old) (length sets.old) (length out.old)) }
+    ensures answer { result ≡ count_of (closed_job_of text.now (length words.old) (length places.old) (length sets.old) (length out.old)) }
+    ensures output { out.new ≡ output_after (length out.old) (closed_job_of text.now (length words.old) (length places.old) (length sets.old) (length out.old)) }
     ensures words { words.new ≡ (if nat_lt (length out.old) 32 then words.old else words_after (read_of text.now (length words.old) (length places.old)) words.old) }
     ensures places { places.new ≡ (if nat_lt (length out.old) 32 then places.old else places_after (read_of text.now (length words.old) (length places.old)) places.old) }
     ensures sets { if nat_lt (length out.old) 32 then (sets.new ≡ sets.old) else SetsAfter (read_of text.now (length words.old) (length places.old)) sets.old sets.new }
@@ -71,8 +71,8 @@ fn list_sets(
     sets: &mut [Set],
 ) -> Result<usize, JobFault>
     requires { fit text.now words.now places.now ≡ true }
-    ensures answer { result ≡ count_of (listedParts text.now words.now places.now (length sets.old) (length out.old)) }
-    ensures output { Reports (listedParts text.now words.now places.now (length sets.old) (length out.old)) out.old out.new }
+    ensures answer { result ≡ count_of (listed_parts text.now words.now places.now (length sets.old) (length out.old)) }
+    ensures output { Reports (listed_parts text.now words.now places.now (length sets.old) (length out.old)) out.old out.new }
     ensures sets { Filled (signals_of words.now places.now) (common (signals_of words.now places.now) words.now) sets.old sets.new }
     ensures lined { IfErr result (λ e. Lined e) }
 {

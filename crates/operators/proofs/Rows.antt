@@ -24,10 +24,10 @@ pub shared : (m : ℕ) (rows : List ℕ) (x y : ℕ) → y ≡ common m rows x �
 shared m rows x y e i h = rw e (signals_in_common m rows x i h)
 
 -- a word reckoned from what calls tell
-pub told-common :
+pub told_common :
     {w m k x y : ℕ} {rows words : List ℕ} → w ≡ common m rows x → m ≡ k → rows ≡ words → x ≡ y → w ≡ common k words y
-told-common e a b d = cc
+told_common e a b d = cc
 
 -- widths that a test found equal
-pub told-width : {w m a : ℕ} (b : ℕ) → w ≡ a → w ≡ m → m ≡ b → a ≡ b
-told-width b p e q = cc
+pub told_width : {w m a : ℕ} (b : ℕ) → w ≡ a → w ≡ m → m ≡ b → a ≡ b
+told_width b p e q = cc

@@ -48,11 +48,11 @@ decides_entailed {m = m} {list = list} rules premise conclusion closed d w k l e
     )
 
 -- the test of the conclusion against the signals common to the rows with the premise
-pub decides-holds :
+pub decides_holds :
     {b : Bool} (words viewed : List ℕ) (places put : List Place) (premise conclusion closed : Set) → Decides b (Inside conclusion closed)
     → closed.width ≡ premise.width → premise.width ≡ signals_of words places → viewed ≡ words → put ≡ places
     → closed.word ≡ common (signals_of viewed put) viewed premise.word → Decides b (HoldsIn words places premise conclusion)
-decides-holds words viewed places put premise conclusion closed d w k v p e =
+decides_holds words viewed places put premise conclusion closed d w k v p e =
     let same : closed.word ≡ common (signals_of words places) words premise.word =
     e ∙ ap (λ x. common (signals_of x put) x premise.word) v ∙ ap (λ x. common (signals_of words x) words premise.word) p in
     let iff = holds_common (signals_of words places) words premise.word conclusion.word in (

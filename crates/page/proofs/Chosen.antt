@@ -5,7 +5,7 @@ use Rattle.std.proofs.lemmas.Bool.{cond-false, cond-true, eq-eqb, ne_eqb, true�
 use Rattle.output.specs.Puts.{put_at}
 use Rattle.output.proofs.Joins.{joined_append}
 use Rattle.output.proofs.Writing.{Wrote, wrote_more, wrote_room}
-use Rattle.page.specs.Pages.{chosen, chosenFrom, name_fields, signal_names}
+use Rattle.page.specs.Pages.{chosen, chosen_from, name_fields, signal_names}
 use Rattle.sets.specs.declared.set.Set.{Set}
 use Rattle.sets.specs.Set.{HasSignal}
 use Rattle.table.specs.declared.place.Place.{Place}
@@ -15,31 +15,31 @@ use Rattle.view.specs.Views.{absent, fit, signal_place}
 use Rattle.view.proofs.Laws.{signal_present}
 use Rattle.view.proofs.Lengths.{fit_short}
 
-first-chosen : (b : Bool) (name : List ℕ) (some more : List (List ℕ)) → cond b (name ∷ (some ++ more)) (some ++ more) ≡ cond b (name ∷ some) some ++ more
-first-chosen true name some more = refl
-first-chosen false name some more = refl
+first_chosen : (b : Bool) (name : List ℕ) (some more : List (List ℕ)) → cond b (name ∷ (some ++ more)) (some ++ more) ≡ cond b (name ∷ some) some ++ more
+first_chosen true name some more = refl
+first_chosen false name some more = refl
 
-chosen-append : (m word i : ℕ) (names more : List (List ℕ)) → chosenFrom m word i (names ++ more) ≡ chosenFrom m word i names ++ chosenFrom m word (i + length names) more
-chosen-append m word i [] more = ap (λ k. chosenFrom m word k more) (sym (add-zero i))
-chosen-append m word i (name ∷ names) more =
+chosen_append : (m word i : ℕ) (names more : List (List ℕ)) → chosen_from m word i (names ++ more) ≡ chosen_from m word i names ++ chosen_from m word (i + length names) more
+chosen_append m word i [] more = ap (λ k. chosen_from m word k more) (sym (add-zero i))
+chosen_append m word i (name ∷ names) more =
     let next : i + 1 + length names ≡ i + length (name ∷ names) = omega arith in
-    let rest : chosenFrom m word (i + 1) (names ++ more) ≡ chosenFrom m word (i + 1) names ++ chosenFrom m word (i + length (name ∷ names)) more =
-    chosen-append m word (i + 1) names more ∙ ap (λ k. chosenFrom m word (i + 1) names ++ chosenFrom m word k more) next in
-    ap (λ xs. cond (eqb (bit_of m i word) 1) (name ∷ xs) xs) rest ∙ first-chosen (eqb (bit_of m i word) 1) name (chosenFrom m word (i + 1) names) _
+    let rest : chosen_from m word (i + 1) (names ++ more) ≡ chosen_from m word (i + 1) names ++ chosen_from m word (i + length (name ∷ names)) more =
+    chosen_append m word (i + 1) names more ∙ ap (λ k. chosen_from m word (i + 1) names ++ chosen_from m word k more) next in
+    ap (λ xs. cond (eqb (bit_of m i word) 1) (name ∷ xs) xs) rest ∙ first_chosen (eqb (bit_of m i word) 1) name (chosen_from m word (i + 1) names) _
 
-chosen_step : (m word : ℕ) (names : List (List ℕ)) (i : ℕ) → i < length names → chosen m word (take (i + 1) names) ≡ chosen m word (take i names) ++ chosenFrom m word i (get_or names i [] ∷ [])
+chosen_step : (m word : ℕ) (names : List (List ℕ)) (i : ℕ) → i < length names → chosen m word (take (i + 1) names) ≡ chosen m word (take i names) ++ chosen_from m word i (get_or names i [] ∷ [])
 chosen_step m word names i lt =
     let here : 0 + length (take i names) ≡ i = omega (arith, length-take-le i names (omega arith)) in
     ap (chosen m word) (take_more names i [] lt)
-    ∙ chosen-append m word 0 (take i names) (get_or names i [] ∷ [])
-    ∙ ap (λ k. chosen m word (take i names) ++ chosenFrom m word k (get_or names i [] ∷ [])) here
+    ∙ chosen_append m word 0 (take i names) (get_or names i [] ∷ [])
+    ∙ ap (λ k. chosen m word (take i names) ++ chosen_from m word k (get_or names i [] ∷ [])) here
 
 -- the fields of those so far are no longer than all
 chosen_front : (m word i : ℕ) (names : List (List ℕ)) → length (name_fields (chosen m word (take i names))) ≤ length (name_fields (chosen m word names))
 chosen_front m word i names =
-    let rest = chosenFrom m word (0 + length (take i names)) (drop i names) in
+    let rest = chosen_from m word (0 + length (take i names)) (drop i names) in
     let all : name_fields (chosen m word names) ≡ name_fields (chosen m word (take i names)) ++ name_fields rest =
-    ap (λ xs. name_fields (chosen m word xs)) (sym (take-append-drop i names)) ∙ ap name_fields (chosen-append m word 0 (take i names) (drop i names))
+    ap (λ xs. name_fields (chosen m word xs)) (sym (take-append-drop i names)) ∙ ap name_fields (chosen_append m word 0 (take i names) (drop i names))
     ∙ joined_append (λ name. 44 ∷ name) (chosen m word (take i names)) rest in
     omega (arith, ap length all, length-append (name_fields (chosen m word (take i names))) (name_fields rest))
 
@@ -127,8 +127,8 @@ module _ (text words : List ℕ) (places : List Place) where
     pub width_same : width ≡ signals → set.width ≡ length (signal_names text words places)
     width_same same = omega (arith, length_names)
 
-    pub width-other : (width ≡ signals → ⊥) → set.width ≡ length (signal_names text words places) → ⊥
-    width-other differs same = differs (omega (arith, length_names))
+    pub width_other : (width ≡ signals → ⊥) → set.width ≡ length (signal_names text words places) → ⊥
+    width_other differs same = differs (omega (arith, length_names))
 
   module _ (i : ℕ) (lt : i < length (signal_names text words places)) where
     name_here : get_or (signal_names text words places) i [] ≡ part_at text (signal_place (length words) places i)

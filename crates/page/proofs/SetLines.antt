@@ -2,49 +2,49 @@
 use Rattle.std.proofs.Common.{◌≡◌, ℕ, ◌+◌, ◌≤◌, List, [], ◌∷◌, ◌++◌, length, codes, decimal, sym, ap, ◌∙◌, subst, append_assoc, append-nil, arith, length-append}
 use Rattle.output.specs.Records.{number_fields}
 use Rattle.output.proofs.Writing.{front_room}
-use Rattle.page.specs.Pages.{name_fields, namesLine}
+use Rattle.page.specs.Pages.{name_fields, names_line}
 
 -- up to the place, and the comma behind it
-abbrev pub toPlace : ℕ → List ℕ
-toPlace place = codes "set," ++ decimal place
+abbrev pub to_place : ℕ → List ℕ
+to_place place = codes "set," ++ decimal place
 
-abbrev pub toComma : ℕ → List ℕ
-toComma place = toPlace place ++ 44 ∷ []
+abbrev pub to_comma : ℕ → List ℕ
+to_comma place = to_place place ++ 44 ∷ []
 
-pub numbers-is : (place count : ℕ) → toComma place ++ decimal count ≡ codes "set" ++ number_fields (place ∷ count ∷ [])
-numbers-is place count = append_assoc (toPlace place) (44 ∷ []) (decimal count) ∙ ap (λ xs. toPlace place ++ 44 ∷ xs) (sym (append-nil (decimal count))) ∙ append_assoc (codes "set,") (decimal place) (44 ∷ (decimal count ++ []))
+pub numbers_is : (place count : ℕ) → to_comma place ++ decimal count ≡ codes "set" ++ number_fields (place ∷ count ∷ [])
+numbers_is place count = append_assoc (to_place place) (44 ∷ []) (decimal count) ∙ ap (λ xs. to_place place ++ 44 ∷ xs) (sym (append-nil (decimal count))) ∙ append_assoc (codes "set,") (decimal place) (44 ∷ (decimal count ++ []))
 
 module _ (place count from n : ℕ) (room : from + length (codes "set" ++ number_fields (place ∷ count ∷ [])) ≤ n) where
-  pub room-numbers : from + length (toComma place ++ decimal count) ≤ n
-  room-numbers = subst (λ xs. from + length xs ≤ n) (sym (numbers-is place count)) room
+  pub room_numbers : from + length (to_comma place ++ decimal count) ≤ n
+  room_numbers = subst (λ xs. from + length xs ≤ n) (sym (numbers_is place count)) room
 
-  pub room-comma : from + length (toComma place) ≤ n
-  room-comma = front_room from n (toComma place) (decimal count) room-numbers
+  pub room_comma : from + length (to_comma place) ≤ n
+  room_comma = front_room from n (to_comma place) (decimal count) room_numbers
 
-  pub room-place : from + length (toPlace place) ≤ n
-  room-place = front_room from n (toPlace place) (44 ∷ []) room-comma
+  pub room_place : from + length (to_place place) ≤ n
+  room_place = front_room from n (to_place place) (44 ∷ []) room_comma
 
 -- up to the names
-abbrev pub toNames : (place count : ℕ) → List ℕ
-toNames place count = codes "set" ++ number_fields (place ∷ count ∷ [])
+abbrev pub to_names : (place count : ℕ) → List ℕ
+to_names place count = codes "set" ++ number_fields (place ∷ count ∷ [])
 
 module _ (place count : ℕ) (names : List (List ℕ)) (is : count ≡ length names) where
-  pub line-is : (toNames place count ++ name_fields names) ++ 10 ∷ [] ≡ namesLine place names
-  line-is =
-      append_assoc (toNames place count) (name_fields names) (10 ∷ [])
+  pub line_is : (to_names place count ++ name_fields names) ++ 10 ∷ [] ≡ names_line place names
+  line_is =
+      append_assoc (to_names place count) (name_fields names) (10 ∷ [])
       ∙ append_assoc (codes "set") (number_fields (place ∷ count ∷ [])) (name_fields names ++ 10 ∷ [])
-      ∙ ap (λ k. toNames place k ++ (name_fields names ++ 10 ∷ [])) is
+      ∙ ap (λ k. to_names place k ++ (name_fields names ++ 10 ∷ [])) is
       ∙ append_assoc (codes "set") (number_fields (place ∷ length names ∷ [])) (name_fields names ++ 10 ∷ [])
 
-  module _ (from n : ℕ) (room : from + length (namesLine place names) ≤ n) where
-    pub room_line : from + length ((toNames place count ++ name_fields names) ++ 10 ∷ []) ≤ n
-    room_line = subst (λ xs. from + length xs ≤ n) (sym line-is) room
+  module _ (from n : ℕ) (room : from + length (names_line place names) ≤ n) where
+    pub room_line : from + length ((to_names place count ++ name_fields names) ++ 10 ∷ []) ≤ n
+    room_line = subst (λ xs. from + length xs ≤ n) (sym line_is) room
 
-    pub room_names : from + length (toNames place count ++ name_fields names) ≤ n
-    room_names = front_room from n (toNames place count ++ name_fields names) (10 ∷ []) room_line
+    pub room_names : from + length (to_names place count ++ name_fields names) ≤ n
+    room_names = front_room from n (to_names place count ++ name_fields names) (10 ∷ []) room_line
 
-    pub room_start : from + length (toNames place count) ≤ n
-    room_start = front_room from n (toNames place count) (name_fields names) room_names
+    pub room_start : from + length (to_names place count) ≤ n
+    room_start = front_room from n (to_names place count) (name_fields names) room_names
 
-pub length-line : (place : ℕ) (names : List (List ℕ)) → length (namesLine place names) ≡ 6 + length (decimal place) + length (decimal (length names)) + length (name_fields names)
-length-line place names = simp length-append (omega arith)
+pub length_line : (place : ℕ) (names : List (List ℕ)) → length (names_line place names) ≡ 6 + length (decimal place) + length (decimal (length names)) + length (name_fields names)
+length_line place names = simp length-append (omega arith)

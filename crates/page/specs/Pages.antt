@@ -40,25 +40,25 @@ abbrev pub signal_names : (text words : List ℕ) → List Place → List (List 
 signal_names text words places = (table_of text words places).signal_names
 
 -- of the names of the signals from i on, those of the signals that belong to the set
-abbrev pub chosenFrom : (m word i : ℕ) → List (List ℕ) → List (List ℕ)
-chosenFrom m word i [] = []
-chosenFrom m word i (name ∷ names) = cond (bit_of m i word == 1) (name ∷ chosenFrom m word (i + 1) names) (chosenFrom m word (i + 1) names)
+abbrev pub chosen_from : (m word i : ℕ) → List (List ℕ) → List (List ℕ)
+chosen_from m word i [] = []
+chosen_from m word i (name ∷ names) = cond (bit_of m i word == 1) (name ∷ chosen_from m word (i + 1) names) (chosen_from m word (i + 1) names)
 
 -- the names of the signals that belong to the set of m signals
 abbrev pub chosen : (m word : ℕ) → List (List ℕ) → List (List ℕ)
-chosen m word names = chosenFrom m word 0 names
+chosen m word names = chosen_from m word 0 names
 
 -- each name behind a comma, the byte 44
 abbrev pub name_fields : List (List ℕ) → List ℕ
 name_fields names = flat_map (λ name. 44 ∷ name) names
 
 -- the line of a set whose signals have these names: its place, the number of the names, and the names
-abbrev pub namesLine : (place : ℕ) → List (List ℕ) → List ℕ
-namesLine place names = codes "set" ++ (number_fields (place ∷ length names ∷ []) ++ (name_fields names ++ 10 ∷ []))
+abbrev pub names_line : (place : ℕ) → List (List ℕ) → List ℕ
+names_line place names = codes "set" ++ (number_fields (place ∷ length names ∷ []) ++ (name_fields names ++ 10 ∷ []))
 
 -- the line of a set, from the names of all signals and the set's word
 abbrev pub set_line_of : (names : List (List ℕ)) → (word place : ℕ) → List ℕ
-set_line_of names word place = namesLine place (chosen (length names) word names)
+set_line_of names word place = names_line place (chosen (length names) word names)
 
 -- the bytes fit at position `at` before the bytes set aside for the foot
 abbrev pub fits_before : (at : ℕ) → (bytes out : List ℕ) → Bool
@@ -78,22 +78,22 @@ abbrev pub takes_line : Page → (line out : List ℕ) → Bool
 takes_line page line out = nat_lt page.lines max_lines && fits_before page.at line out
 
 -- the page takes the line of a set, which is one of as many signals as there are names
-abbrev pub takesSet : (names : List (List ℕ)) → Page → (place : ℕ) → Set → (out : List ℕ) → Bool
-takesSet names page place set out = set.width == length names && takes_line page (set_line_of names set.word place) out
+abbrev pub takes_set : (names : List (List ℕ)) → Page → (place : ℕ) → Set → (out : List ℕ) → Bool
+takes_set names page place set out = set.width == length names && takes_line page (set_line_of names set.word place) out
 
 -- what is answered: a set of another width is refused first
-abbrev pub setAnswer : (names : List (List ℕ)) → Page → (place : ℕ) → Set → (out : List ℕ) → Result Unit PageFault
-setAnswer names page place set out =
+abbrev pub set_answer : (names : List (List ℕ)) → Page → (place : ℕ) → Set → (out : List ℕ) → Result Unit PageFault
+set_answer names page place set out =
     cond (set.width == length names) (cond (takes_line page (set_line_of names set.word place) out) (Ok tt) (Err (fault.Output Full))) (Err (fault.Set OtherWidth))
 
 -- the output afterwards: as before where the set is refused
 abbrev pub output_after : (names : List (List ℕ)) → Page → (place : ℕ) → Set → (out : List ℕ) → List ℕ
-output_after names page place set out = cond (takesSet names page place set out) (put_at page.at (set_line_of names set.word place) out) out
+output_after names page place set out = cond (takes_set names page place set out) (put_at page.at (set_line_of names set.word place) out) out
 
 -- the position behind the page afterwards
 abbrev pub at_after : (names : List (List ℕ)) → Page → (place : ℕ) → Set → (out : List ℕ) → ℕ
-at_after names page place set out = cond (takesSet names page place set out) (page.at + length (set_line_of names set.word place)) page.at
+at_after names page place set out = cond (takes_set names page place set out) (page.at + length (set_line_of names set.word place)) page.at
 
 -- the number of lines afterwards
 abbrev pub lines_after : (names : List (List ℕ)) → Page → (place : ℕ) → Set → (out : List ℕ) → ℕ
-lines_after names page place set out = cond (takesSet names page place set out) (page.lines + 1) page.lines
+lines_after names page place set out = cond (takes_set names page place set out) (page.lines + 1) page.lines

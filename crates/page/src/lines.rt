@@ -1,7 +1,7 @@
 ghost use Rattle.std.specs.Prelude.{◌≡◌, ◌+◌, ◌*◌, ◌≤◌, [], ◌∷◌, ◌++◌, length, Ok, codes};
 ghost use Rattle.output.specs.Puts.{put_at};
 ghost use Rattle.output.specs.Records.{number_fields};
-ghost use Rattle.page.specs.Pages.{chosen, name_fields, namesLine, signal_names};
+ghost use Rattle.page.specs.Pages.{chosen, name_fields, names_line, signal_names};
 
 use output::faults::OutputFault;
 use output::number::put_number;
@@ -39,9 +39,9 @@ pub(crate) fn put_set(
 ) -> Result<usize, OutputFault>
     requires whole { set.width ≡ length (signal_names view.now.text.now view.now.words.now view.now.places.now) }
     requires counted { count ≡ length (chosen set.width set.word (signal_names view.now.text.now view.now.words.now view.now.places.now)) }
-    requires room { at + length (namesLine place (chosen set.width set.word (signal_names view.now.text.now view.now.words.now view.now.places.now))) ≤ length out.old }
-    ensures answer { result ≡ Ok (at + length (namesLine place (chosen set.width set.word (signal_names view.now.text.now view.now.words.now view.now.places.now)))) }
-    ensures output { out.new ≡ put_at at (namesLine place (chosen set.width set.word (signal_names view.now.text.now view.now.words.now view.now.places.now))) out.old }
+    requires room { at + length (names_line place (chosen set.width set.word (signal_names view.now.text.now view.now.words.now view.now.places.now))) ≤ length out.old }
+    ensures answer { result ≡ Ok (at + length (names_line place (chosen set.width set.word (signal_names view.now.text.now view.now.words.now view.now.places.now)))) }
+    ensures output { out.new ≡ put_at at (names_line place (chosen set.width set.word (signal_names view.now.text.now view.now.words.now view.now.places.now))) out.old }
 {
     let at = put_numbers(out, at, place, count)?;
     let at = put_names(out, at, view, set)?;

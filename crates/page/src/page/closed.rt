@@ -1,5 +1,5 @@
 ghost use Rattle.std.specs.Prelude.{◌≡◌, ◌+◌, ◌-◌, ◌≤◌, length};
-ghost use Rattle.page.specs.Pages.{Begun, at_after, closed_head, lines_after, output_after, put_before, reserve, setAnswer, signal_names};
+ghost use Rattle.page.specs.Pages.{Begun, at_after, closed_head, lines_after, output_after, put_before, reserve, set_answer, signal_names};
 
 use super::{FOOT_BYTES, Page};
 use crate::faults::PageFault;
@@ -41,7 +41,7 @@ impl Page {
         place: usize,
         set: Set,
     ) -> Result<(), PageFault>
-        ensures answer { result ≡ setAnswer (signal_names view.now.text.now view.now.words.now view.now.places.now) self.old place set out.old }
+        ensures answer { result ≡ set_answer (signal_names view.now.text.now view.now.words.now view.now.places.now) self.old place set out.old }
         ensures output { out.new ≡ output_after (signal_names view.now.text.now view.now.words.now view.now.places.now) self.old place set out.old }
         ensures at { self.new.at ≡ at_after (signal_names view.now.text.now view.now.words.now view.now.places.now) self.old place set out.old }
         ensures lines { self.new.lines ≡ lines_after (signal_names view.now.text.now view.now.words.now view.now.places.now) self.old place set out.old }

@@ -4,7 +4,7 @@ use Rattle.table.specs.Reading.{read_of}
 use Rattle.job.specs.Closed.{SetsAfter, listed}
 use Rattle.job.specs.Faults.{fault_of}
 use Rattle.job.specs.Reports.{count_of, output_after, padded, fault_line}
-use Rattle.job.proofs.ClosedPages.{closed-large}
+use Rattle.job.proofs.ClosedPages.{closed_large}
 use Rattle.job.proofs.Reporting.{job_granted, job_refused}
 use Rattle.job.proofs.closed.list_closed.Goals as goal
 
@@ -15,7 +15,7 @@ returns-in-Ok c =
     let large : 32 ≤ length c.args.out.now = omega arith in
     let small = le-ltb (length c.args.out.now) 32 large in
     let read = read_of c.args.text.now (length c.args.words.now) (length c.args.places.now) in
-    let whole = closed-large c.args.text.now (length c.args.words.now) (length c.args.places.now) (length c.args.sets.now) (length c.args.out.now) large
+    let whole = closed_large c.args.text.now (length c.args.words.now) (length c.args.places.now) (length c.args.sets.now) (length c.args.out.now) large
     ∙ ap (λ n. listed c.args.text.now (length c.args.sets.now) n read) (sym size) in
     let h = c.in-Ok.ensures in
     record {
@@ -35,7 +35,7 @@ returns-in-Err c =
     let large : 32 ≤ length c.args.out.now = omega arith in
     let small = le-ltb (length c.args.out.now) 32 large in
     let read = read_of c.args.text.now (length c.args.words.now) (length c.args.places.now) in
-    let whole = closed-large c.args.text.now (length c.args.words.now) (length c.args.places.now) (length c.args.sets.now) (length c.args.out.now) large
+    let whole = closed_large c.args.text.now (length c.args.words.now) (length c.args.places.now) (length c.args.sets.now) (length c.args.out.now) large
     ∙ ap (λ n. listed c.args.text.now (length c.args.sets.now) n read) (sym size) in
     let h = c.in-Err.ensures in
     let same = c.refuse.ensures.answer in

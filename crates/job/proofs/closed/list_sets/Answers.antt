@@ -10,7 +10,7 @@ use Rattle.survey.specs.Fills.{Filled, words_of}
 use Rattle.theory.specs.Rows.{common}
 use Rattle.tray.specs.Tray.{max_entries}
 use Rattle.job.specs.Closed.{closed_words, page_of, paged}
-use Rattle.job.proofs.ClosedPages.{kept-all, page-granted, page-refused, sets-refused, paged-same, pageOf-same}
+use Rattle.job.proofs.ClosedPages.{kept_all, page_granted, page_refused, sets_refused, paged_same, page_of_same}
 use Rattle.job.proofs.closed.list_sets.Goals as goal
 
 pub returns-in-err-count : goal.returns-in-err-count
@@ -20,7 +20,7 @@ returns-in-err-count c =
     let all : closed_words c.new-operator.result.view.words.now c.new-operator.result.view.places.now ≡ closed_words c.args.words.now c.args.places.now = ap (λ w. closed_words w c.new-operator.result.view.places.now) (ap (λ v. v.words.now) c.new-operator.ensures.view ∙ c.new-view.ensures.words ∙ cond-true _ _ _ c.requires) ∙ ap (closed_words c.args.words.now) (ap (λ v. v.places.now) c.new-operator.ensures.view ∙ c.new-view.ensures.places ∙ cond-true _ _ _ c.requires) in
     let p = err_from_is_err_and c.from-residual.result c.from-residual.ensures.1 in
     let told = c.in-err-count.ensures.answer in
-    let q = sets-refused c.args.text.now c.args.words.now c.args.places.now (length c.args.sets.now) (length c.args.out.now)
+    let q = sets_refused c.args.text.now c.args.words.now c.args.places.now (length c.args.sets.now) (length c.args.out.now)
     (omega (arith, told.0, ap length all)) c.in-err-count.field-0.0 c.from-residual.result c.args.out.now c.args.out.now (p.1 ∙ ap Err p.2) in
     record { answer = q.0; output = q.1; sets = f; lined = q.2 }
 
@@ -32,7 +32,7 @@ put-closed-requires c =
     let told = c.in-ok-count.ensures.answer in
     let count : c.in-ok-count.count ≡ length (closed_words c.args.words.now c.args.places.now) = told.0 ∙ ap length all in
     let room : length (closed_words c.args.words.now c.args.places.now) ≤ min (length c.args.sets.now) max_entries = omega (arith, count, told.1) in
-    let kept = kept-all (signals_of c.args.words.now c.args.places.now) c.in-ok-count.count (common (signals_of c.args.words.now c.args.places.now) c.args.words.now)
+    let kept = kept_all (signals_of c.args.words.now c.args.places.now) c.in-ok-count.count (common (signals_of c.args.words.now c.args.places.now) c.args.words.now)
     c.args.sets.now c.fill-memory.new.memory f count told.1 in
     let words : words_of (take (c.in-ok-count.count - 0) c.fill-memory.new.memory) ≡ closed_words c.args.words.now c.args.places.now = ap words_of kept.0 ∙ kept.1 in
     let tx : c.new-view.result.text.now ≡ c.args.text.now = c.new-view.ensures.text ∙ cond-true _ _ _ c.requires in
@@ -54,17 +54,17 @@ returns-in-err-bytes c =
     let told = c.in-ok-count.ensures.answer in
     let count : c.in-ok-count.count ≡ length (closed_words c.args.words.now c.args.places.now) = told.0 ∙ ap length all in
     let room : length (closed_words c.args.words.now c.args.places.now) ≤ min (length c.args.sets.now) max_entries = omega (arith, count, told.1) in
-    let kept = kept-all (signals_of c.args.words.now c.args.places.now) c.in-ok-count.count (common (signals_of c.args.words.now c.args.places.now) c.args.words.now)
+    let kept = kept_all (signals_of c.args.words.now c.args.places.now) c.in-ok-count.count (common (signals_of c.args.words.now c.args.places.now) c.args.words.now)
     c.args.sets.now c.fill-memory.new.memory f count told.1 in
     let words : words_of (take (c.in-ok-count.count - 0) c.fill-memory.new.memory) ≡ closed_words c.args.words.now c.args.places.now = ap words_of kept.0 ∙ kept.1 in
     let tx : c.new-view.result.text.now ≡ c.args.text.now = c.new-view.ensures.text ∙ cond-true _ _ _ c.requires in
     let wx : c.new-view.result.words.now ≡ c.args.words.now = c.new-view.ensures.words ∙ cond-true _ _ _ c.requires in
     let px : c.new-view.result.places.now ≡ c.args.places.now = c.new-view.ensures.places ∙ cond-true _ _ _ c.requires in
     let p = err_from_is_err_and c.from-residual-in-err-bytes.result c.from-residual-in-err-bytes.ensures.1 in
-    let same = paged-same (length c.args.out.now) c.new-view.result.text.now c.new-view.result.words.now c.args.text.now c.args.words.now
+    let same = paged_same (length c.args.out.now) c.new-view.result.text.now c.new-view.result.words.now c.args.text.now c.args.words.now
     (words_of (take (c.in-ok-count.count - 0) c.fill-memory.new.memory)) (closed_words c.args.words.now c.args.places.now)
     c.new-view.result.places.now c.args.places.now tx wx px words in
-    let q = page-refused c.args.text.now c.args.words.now c.args.places.now (length c.args.sets.now) (length c.args.out.now) room
+    let q = page_refused c.args.text.now c.args.words.now c.args.places.now (length c.args.sets.now) (length c.args.out.now) room
     c.in-err-bytes.field-0.0 c.from-residual-in-err-bytes.result c.args.out.now c.put-closed.new.out
     (c.in-err-bytes.ensures.answer ∙ ap (result_map_both length (λ e. e)) same) (p.1 ∙ ap Err p.2) in
     record { answer = q.0; output = q.1; sets = f; lined = q.2 }
@@ -77,19 +77,19 @@ returns c =
     let told = c.in-ok-count.ensures.answer in
     let count : c.in-ok-count.count ≡ length (closed_words c.args.words.now c.args.places.now) = told.0 ∙ ap length all in
     let room : length (closed_words c.args.words.now c.args.places.now) ≤ min (length c.args.sets.now) max_entries = omega (arith, count, told.1) in
-    let kept = kept-all (signals_of c.args.words.now c.args.places.now) c.in-ok-count.count (common (signals_of c.args.words.now c.args.places.now) c.args.words.now)
+    let kept = kept_all (signals_of c.args.words.now c.args.places.now) c.in-ok-count.count (common (signals_of c.args.words.now c.args.places.now) c.args.words.now)
     c.args.sets.now c.fill-memory.new.memory f count told.1 in
     let words : words_of (take (c.in-ok-count.count - 0) c.fill-memory.new.memory) ≡ closed_words c.args.words.now c.args.places.now = ap words_of kept.0 ∙ kept.1 in
     let tx : c.new-view.result.text.now ≡ c.args.text.now = c.new-view.ensures.text ∙ cond-true _ _ _ c.requires in
     let wx : c.new-view.result.words.now ≡ c.args.words.now = c.new-view.ensures.words ∙ cond-true _ _ _ c.requires in
     let px : c.new-view.result.places.now ≡ c.args.places.now = c.new-view.ensures.places ∙ cond-true _ _ _ c.requires in
-    let same = paged-same (length c.args.out.now) c.new-view.result.text.now c.new-view.result.words.now c.args.text.now c.args.words.now
+    let same = paged_same (length c.args.out.now) c.new-view.result.text.now c.new-view.result.words.now c.args.text.now c.args.words.now
     (words_of (take (c.in-ok-count.count - 0) c.fill-memory.new.memory)) (closed_words c.args.words.now c.args.places.now)
     c.new-view.result.places.now c.args.places.now tx wx px words in
-    let page = pageOf-same c.new-view.result.text.now c.new-view.result.words.now c.args.text.now c.args.words.now
+    let page = page_of_same c.new-view.result.text.now c.new-view.result.words.now c.args.text.now c.args.words.now
     (words_of (take (c.in-ok-count.count - 0) c.fill-memory.new.memory)) (closed_words c.args.words.now c.args.places.now)
     c.new-view.result.places.now c.args.places.now tx wx px words in
-    let q = page-granted c.args.text.now c.args.words.now c.args.places.now (length c.args.sets.now) (length c.args.out.now) room
+    let q = page_granted c.args.text.now c.args.words.now c.args.places.now (length c.args.sets.now) (length c.args.out.now) room
     c.in-ok-bytes.bytes c.args.out.now c.put-closed.new.out
     (c.in-ok-bytes.ensures.answer ∙ ap (result_map_both length (λ e. e)) same) (c.in-ok-bytes.ensures.output ∙ ap (λ bs. put_at 0 bs c.args.out.now) page) in
     record { answer = q.0; output = q.1; sets = f; lined = tt }

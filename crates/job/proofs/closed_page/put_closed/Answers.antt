@@ -4,7 +4,7 @@ use Rattle.operators.specs.TableClosure.{signals_of}
 use Rattle.page.specs.Pages.{closed_head, foot, signal_names}
 use Rattle.survey.specs.Fills.{words_of}
 use Rattle.job.specs.Closed.{lines_of_sets}
-use Rattle.job.proofs.PageBodies.{foot-of, head_full, head_room, lines_from, lines-full, page-ended, widths-named}
+use Rattle.job.proofs.PageBodies.{foot_of, head_full, head_room, lines_from, lines_full, page_ended, widths_named}
 use Rattle.job.proofs.closed_page.put_closed.Goals as goal
 
 pub returns-in-err-page : goal.returns-in-err-page
@@ -24,7 +24,7 @@ put-sets-done-requires g c =
     let head = closed_head g.O.Operator.letter (signals_of c.args.view.now.words.now c.args.view.now.places.now) in
     let begun = c.in-ok-page.ensures.answer in
     record {
-      widths = widths-named c.args.view.now.text.now c.args.view.now.words.now c.args.view.now.places.now c.args.sets.now c.requires.widths;
+      widths = widths_named c.args.view.now.text.now c.args.view.now.words.now c.args.view.now.places.now c.args.sets.now c.requires.widths;
       few = omega (arith, begun.2, c.requires.few);
       room = head_room head c.args.out.now c.begin-closed.new.out c.in-ok-page.page.at begun.0 begun.1 c.begin-closed.ensures.output;
     }
@@ -38,7 +38,7 @@ returns-in-err-done g c =
     let begun = c.in-ok-page.ensures.answer in
     let p = err_from_is_err_and c.from-residual-in-err-done.result c.from-residual-in-err-done.ensures.1 in
     record {
-      answer = lines-full head c.args.out.now c.begin-closed.new.out page.at begun.0 begun.1 c.begin-closed.ensures.output (lines_of_sets names 0 ws) (lines_of_sets names page.lines ws)
+      answer = lines_full head c.args.out.now c.begin-closed.new.out page.at begun.0 begun.1 c.begin-closed.ensures.output (lines_of_sets names 0 ws) (lines_of_sets names page.lines ws)
           (lines_from names ws page.lines begun.2) (foot (length ws)) c.from-residual-in-err-done.result c.in-err-done.field-0.0 (p.1 ∙ ap Err p.2) c.in-err-done.ensures.answer;
       output = search rules;
     }
@@ -52,7 +52,7 @@ returns g c =
     let next = c.put-sets-done.new.page in
     let begun = c.in-ok-page.ensures.answer in
     let put = c.in-ok-done.ensures in
-    let whole = page-ended head c.args.out.now c.begin-closed.new.out page.at begun.0 begun.1 c.begin-closed.ensures.output (lines_of_sets names 0 ws) (lines_of_sets names page.lines ws)
+    let whole = page_ended head c.args.out.now c.begin-closed.new.out page.at begun.0 begun.1 c.begin-closed.ensures.output (lines_of_sets names 0 ws) (lines_of_sets names page.lines ws)
     (lines_from names ws page.lines begun.2) (foot (length ws)) (foot next.lines) c.put-sets-done.new.out c.foot-end.new.out next.at c.in-ok-end.field-0
-    (foot-of c.args.sets.now page.lines next.lines begun.2 put.lines) put.answer put.at put.output c.in-ok-end.ensures.answer c.foot-end.ensures.output in
+    (foot_of c.args.sets.now page.lines next.lines begun.2 put.lines) put.answer put.at put.output c.in-ok-end.ensures.answer c.foot-end.ensures.output in
     record { answer = whole.0; output = whole.1 }

@@ -1,14 +1,14 @@
 use Rattle.std.proofs.Common.{◌≡◌, ◌+◌, length}
 use Rattle.page.specs.Pages.{signal_names}
-use Rattle.page.proofs.Chosen.{width-other, width_same}
-use Rattle.page.proofs.Outcomes.{line, line-long, line_room, no_room, other_width, taken}
+use Rattle.page.proofs.Chosen.{width_other, width_same}
+use Rattle.page.proofs.Outcomes.{line, line_long, line_room, no_room, other_width, taken}
 use Rattle.page.proofs.page.Page.set_line.Goals as goal
 
 pub returns-then-width-signals : goal.returns-then-width-signals
 returns-then-width-signals c =
     let names = signal_names c.args.view.now.text.now c.args.view.now.words.now c.args.view.now.places.now in
     let o = other_width names c.args.self.now c.args.place c.args.set c.args.out.now
-    (width-other c.args.view.now.text.now c.args.view.now.words.now c.args.view.now.places.now c.args.set c.width.result c.signals.result c.width.ensures.value c.signals.ensures.count c.if-width-signals.true) in
+    (width_other c.args.view.now.text.now c.args.view.now.words.now c.args.view.now.places.now c.args.set c.width.result c.signals.result c.width.ensures.value c.signals.ensures.count c.if-width-signals.true) in
     record { answer = o.answer; output = o.output; at = o.behind; lines = o.number; reserved = o.reserved }
 
 pub count_names-count-requires : goal.count_names-count-requires
@@ -20,7 +20,7 @@ returns-then-not-takes c =
     let names = signal_names c.args.view.now.text.now c.args.view.now.words.now c.args.view.now.places.now in
     let same : c.args.set.width ≡ length names =
     width_same c.args.view.now.text.now c.args.view.now.words.now c.args.view.now.places.now c.args.set c.width.result c.signals.result c.width.ensures.value c.signals.ensures.count c.if-width-signals.false in
-    let long = line-long names c.args.self.now c.args.place c.args.set c.args.out.now same c.count_names-count.result.0 c.count_names-count.result.1 c.digits.result c.digits-2.result
+    let long = line_long names c.args.self.now c.args.place c.args.set c.args.out.now same c.count_names-count.result.0 c.count_names-count.result.1 c.digits.result c.digits-2.result
     c.count_names-count.ensures.names c.count_names-count.ensures.fields c.digits.ensures.count c.digits-2.ensures.count in
     let o = no_room names c.args.self.now c.args.place c.args.set c.args.out.now same _ long c.takes.result c.takes.ensures.answer c.if-not-takes.true in
     record { answer = o.answer; output = o.output; at = o.behind; lines = o.number; reserved = o.reserved }
@@ -30,7 +30,7 @@ put_set-requires c =
     let names = signal_names c.args.view.now.text.now c.args.view.now.words.now c.args.view.now.places.now in
     let same : c.args.set.width ≡ length names =
     width_same c.args.view.now.text.now c.args.view.now.words.now c.args.view.now.places.now c.args.set c.width.result c.signals.result c.width.ensures.value c.signals.ensures.count c.if-width-signals.false in
-    let long = line-long names c.args.self.now c.args.place c.args.set c.args.out.now same c.count_names-count.result.0 c.count_names-count.result.1 c.digits.result c.digits-2.result
+    let long = line_long names c.args.self.now c.args.place c.args.set c.args.out.now same c.count_names-count.result.0 c.count_names-count.result.1 c.digits.result c.digits-2.result
     c.count_names-count.ensures.names c.count_names-count.ensures.fields c.digits.ensures.count c.digits-2.ensures.count in
     record {
       whole = same;
@@ -43,7 +43,7 @@ returns c =
     let names = signal_names c.args.view.now.text.now c.args.view.now.words.now c.args.view.now.places.now in
     let same : c.args.set.width ≡ length names =
     width_same c.args.view.now.text.now c.args.view.now.words.now c.args.view.now.places.now c.args.set c.width.result c.signals.result c.width.ensures.value c.signals.ensures.count c.if-width-signals.false in
-    let long = line-long names c.args.self.now c.args.place c.args.set c.args.out.now same c.count_names-count.result.0 c.count_names-count.result.1 c.digits.result c.digits-2.result
+    let long = line_long names c.args.self.now c.args.place c.args.set c.args.out.now same c.count_names-count.result.0 c.count_names-count.result.1 c.digits.result c.digits-2.result
     c.count_names-count.ensures.names c.count_names-count.ensures.fields c.digits.ensures.count c.digits-2.ensures.count in
     let granted = c.in_ok-self.ensures.answer in
     let behind : c.in_ok-self.field-0 ≡ c.args.self.now.at + length (line names c.args.self.now c.args.place c.args.set c.args.out.now) = cc in
