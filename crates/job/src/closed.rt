@@ -1,4 +1,4 @@
-ghost use Rattle.std.specs.Prelude.{◌≡◌, true, length, IfErr, if◌then◌else◌, nat_lt};
+ghost use Rattle.std.specs.Prelude.{◌≡◌, true, cond, length, IfErr, if◌then◌else◌, nat_lt};
 ghost use Rattle.job.specs.Closed.{SetsAfter, closed_job_of, listed, listed_parts};
 ghost use Rattle.job.specs.Reports.{Lined, Reports, count_of, output_after};
 ghost use Rattle.operators.specs.TableClosure.{signals_of};
@@ -29,7 +29,7 @@ pub fn list_closed(
     ensures output { out.new ≡ output_after (length out.old) (closed_job_of text.now (length words.old) (length places.old) (length sets.old) (length out.old)) }
     ensures words { words.new ≡ (if nat_lt (length out.old) 32 then words.old else words_after (read_of text.now (length words.old) (length places.old)) words.old) }
     ensures places { places.new ≡ (if nat_lt (length out.old) 32 then places.old else places_after (read_of text.now (length words.old) (length places.old)) places.old) }
-    ensures sets { if nat_lt (length out.old) 32 then (sets.new ≡ sets.old) else SetsAfter (read_of text.now (length words.old) (length places.old)) sets.old sets.new }
+    ensures sets { cond (nat_lt (length out.old) 32) (sets.new ≡ sets.old) (SetsAfter (read_of text.now (length words.old) (length places.old)) sets.old sets.new) }
 {
     out.fill(0);
     if out.len() < MIN_OUTPUT {

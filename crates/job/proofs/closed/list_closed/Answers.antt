@@ -20,12 +20,12 @@ returns-in-Ok c =
     let h = c.in-Ok.ensures in
     record {
       answer = h.answer ∙ sym (ap count_of whole);
-      output = job_granted (length c.args.out.now) c.in-Ok.count (listed c.args.text.now (length c.args.sets.now) (length c.fill.new.self) read) c.fill.new.self c.list-table.new.out
+      output = job_granted (length c.args.out.now) c.in-Ok.count (listed c.args.text.now (length c.args.sets.now) (length c.fill.new.self) read) c.fill.new.self c.list_table.new.out
           zeros h.answer h.output
           ∙ sym (ap (output_after (length c.args.out.now)) whole);
       words = h.words ∙ sym (cond-false _ _ _ small);
       places = h.places ∙ sym (cond-false _ _ _ small);
-      sets = subst (λ b. cond b (c.list-table.new.sets ≡ c.args.sets.now) (SetsAfter read c.args.sets.now c.list-table.new.sets)) (sym small) h.sets;
+      sets = subst (λ b. cond b (c.list_table.new.sets ≡ c.args.sets.now) (SetsAfter read c.args.sets.now c.list_table.new.sets)) (sym small) h.sets;
     }
 
 pub returns-in-Err : goal.returns-in-Err
@@ -39,7 +39,7 @@ returns-in-Err c =
     ∙ ap (λ n. listed c.args.text.now (length c.args.sets.now) n read) (sym size) in
     let h = c.in-Err.ensures in
     let same = c.refuse.ensures.answer in
-    let long : length c.list-table.new.out ≡ length c.args.out.now = search rules in
+    let long : length c.list_table.new.out ≡ length c.args.out.now = search rules in
     record {
       answer = ap Err same ∙ h.answer ∙ sym (ap count_of whole);
       output = job_refused (length c.args.out.now) (listed c.args.text.now (length c.args.sets.now) (length c.fill.new.self) read) c.in-Err.fault c.refuse.new.out
@@ -47,5 +47,5 @@ returns-in-Err c =
           ∙ sym (ap (output_after (length c.args.out.now)) whole);
       words = h.words ∙ sym (cond-false _ _ _ small);
       places = h.places ∙ sym (cond-false _ _ _ small);
-      sets = subst (λ b. cond b (c.list-table.new.sets ≡ c.args.sets.now) (SetsAfter read c.args.sets.now c.list-table.new.sets)) (sym small) h.sets;
+      sets = subst (λ b. cond b (c.list_table.new.sets ≡ c.args.sets.now) (SetsAfter read c.args.sets.now c.list_table.new.sets)) (sym small) h.sets;
     }

@@ -12,24 +12,24 @@ pub loop-set-preserved : goal.loop-set-preserved
 loop-set-preserved c =
     let names = signal_names c.args.view.now.text.now c.args.view.now.words.now c.args.view.now.places.now in
     listing_more names c.args.page.now.at c.args.page.now.lines c.args.sets.now c.args.out.now c.loop-set.out c.loop-set.set-index c.loop-set.page c.lines-place.result
-    c.set-item.result c.requires.widths c.requires.few c.loop-set-test.true c.set-item.is c.lines-place.ensures.value c.loop-set.invariant c.set-line.new.out c.set-line.new.self.at
-    c.set-line.new.self.lines c.in-ok-set-line.ensures.answer c.set-line.ensures.output c.set-line.ensures.at c.set-line.ensures.lines
-    (c.set-line.ensures.reserved c.loop-set.invariant.free)
+    c.set-item.result c.requires.widths c.requires.few c.loop-set-test.true c.set-item.is c.lines-place.ensures.value c.loop-set.invariant c.set_line.new.out c.set_line.new.self.at
+    c.set_line.new.self.lines c.in_ok-set_line.ensures.answer c.set_line.ensures.output c.set_line.ensures.at c.set_line.ensures.lines
+    (c.set_line.ensures.reserved c.loop-set.invariant.free)
 
-pub returns-in-err-set-line : goal.returns-in-err-set-line
-returns-in-err-set-line c =
+pub returns-in_err-set_line : goal.returns-in_err-set_line
+returns-in_err-set_line c =
     let names = signal_names c.args.view.now.text.now c.args.view.now.words.now c.args.view.now.places.now in
-    let p = err_from_is_err_and c.from-residual.result c.from-residual.ensures.1 in
-    let same : c.from-residual.result ≡ Err c.in-err-set-line.field-0.0 = p.1 ∙ ap Err p.2 in
+    let p = err_from_is_err_and c.from_residual.result c.from_residual.ensures.1 in
+    let same : c.from_residual.result ≡ Err c.in_err-set_line.field-0.0 = p.1 ∙ ap Err p.2 in
     record {
       answer = same
           ∙ listing_full names c.args.page.now.at c.args.page.now.lines c.args.sets.now c.args.out.now c.loop-set.out c.loop-set.set-index c.loop-set.page c.lines-place.result
-          c.set-item.result c.requires.widths c.requires.few c.loop-set-test.true c.set-item.is c.lines-place.ensures.value c.loop-set.invariant c.in-err-set-line.field-0.0
-          c.in-err-set-line.ensures.answer;
+          c.set-item.result c.requires.widths c.requires.few c.loop-set-test.true c.set-item.is c.lines-place.ensures.value c.loop-set.invariant c.in_err-set_line.field-0.0
+          c.in_err-set_line.ensures.answer;
       at = search rules;
       lines = search rules;
       output = search rules;
-      reserved = c.set-line.ensures.reserved c.loop-set.invariant.free;
+      reserved = c.set_line.ensures.reserved c.loop-set.invariant.free;
     }
 
 pub returns : goal.returns

@@ -10,33 +10,33 @@ use Rattle.view.specs.Texts.{shown_text}
 use Rattle.job.proofs.Reporting.{report_same, front_part}
 use Rattle.job.proofs.report.put_report.Goals as goal
 
-pub returns-in-err-at : goal.returns-in-err-at
-returns-in-err-at c =
+pub returns-in_err-at : goal.returns-in_err-at
+returns-in_err-at c =
     let same = report_same c.rows.result c.signals.result c.args.bytes c.new-view.result.text.now c.new-view.result.words.now c.args.text.now c.args.words.now
     c.new-view.result.places.now c.args.places.now c.rows.ensures.count c.signals.ensures.count
     (c.new-view.ensures.text ∙ cond-true _ _ _ c.requires) (c.new-view.ensures.words ∙ cond-true _ _ _ c.requires) (c.new-view.ensures.places ∙ cond-true _ _ _ c.requires) in
-    let p = err_from_is_err_and c.from-residual.result c.from-residual.ensures.1 in
+    let p = err_from_is_err_and c.from_residual.result c.from_residual.ensures.1 in
     record {
-      answer = p.1 ∙ ap Err p.2 ∙ sym (refused_front 0 (record_line (codes "read") (c.rows.result ∷ c.signals.result ∷ c.args.bytes ∷ [])) (shown_text c.new-view.result.text.now c.new-view.result.words.now c.new-view.result.places.now) c.args.out.now c.in-err-at.field-0.0 c.in-err-at.ensures.answer)
+      answer = p.1 ∙ ap Err p.2 ∙ sym (refused_front 0 (record_line (codes "read") (c.rows.result ∷ c.signals.result ∷ c.args.bytes ∷ [])) (shown_text c.new-view.result.text.now c.new-view.result.words.now c.new-view.result.places.now) c.args.out.now c.in_err-at.field-0.0 c.in_err-at.ensures.answer)
           ∙ ap (λ bs. put_answer_of 0 bs c.args.out.now) same;
-      output = IfOk-from_err c.from-residual.result _ c.from-residual.ensures.0;
+      output = IfOk-from_err c.from_residual.result _ c.from_residual.ensures.0;
     }
 
-pub returns-in-err-length : goal.returns-in-err-length
-returns-in-err-length c =
+pub returns-in_err-length : goal.returns-in_err-length
+returns-in_err-length c =
     let same = report_same c.rows.result c.signals.result c.args.bytes c.new-view.result.text.now c.new-view.result.words.now c.args.text.now c.args.words.now
     c.new-view.result.places.now c.args.places.now c.rows.ensures.count c.signals.ensures.count
     (c.new-view.ensures.text ∙ cond-true _ _ _ c.requires) (c.new-view.ensures.words ∙ cond-true _ _ _ c.requires) (c.new-view.ensures.places ∙ cond-true _ _ _ c.requires) in
-    let w : Wrote 0 (record_line (codes "read") (c.rows.result ∷ c.signals.result ∷ c.args.bytes ∷ [])) c.args.out.now c.put-record.new.out c.in-ok-at.at =
-    wrote_put 0 [] (record_line (codes "read") (c.rows.result ∷ c.signals.result ∷ c.args.bytes ∷ [])) c.args.out.now c.args.out.now c.put-record.new.out 0 c.in-ok-at.at
-    (wrote_none 0 c.args.out.now (omega arith)) c.in-ok-at.ensures.answer c.in-ok-at.ensures.output in
-    let p = err_from_is_err_and c.from-residual-in-err-length.result c.from-residual-in-err-length.ensures.1 in
+    let w : Wrote 0 (record_line (codes "read") (c.rows.result ∷ c.signals.result ∷ c.args.bytes ∷ [])) c.args.out.now c.put_record.new.out c.in_ok-at.at =
+    wrote_put 0 [] (record_line (codes "read") (c.rows.result ∷ c.signals.result ∷ c.args.bytes ∷ [])) c.args.out.now c.args.out.now c.put_record.new.out 0 c.in_ok-at.at
+    (wrote_none 0 c.args.out.now (omega arith)) c.in_ok-at.ensures.answer c.in_ok-at.ensures.output in
+    let p = err_from_is_err_and c.from_residual-in_err-length.result c.from_residual-in_err-length.ensures.1 in
     record {
       answer = p.1 ∙ ap Err p.2
-          ∙ sym (refused_rest (record_line (codes "read") (c.rows.result ∷ c.signals.result ∷ c.args.bytes ∷ [])) (shown_text c.new-view.result.text.now c.new-view.result.words.now c.new-view.result.places.now) c.args.out.now c.put-record.new.out c.in-ok-at.at w c.in-err-length.field-0.0
-          (c.in-err-length.ensures.answer ∙ ap (put_answer_of 0 (shown_text c.new-view.result.text.now c.new-view.result.words.now c.new-view.result.places.now)) (take_rest c.put-record.new.out c.in-ok-at.at)))
+          ∙ sym (refused_rest (record_line (codes "read") (c.rows.result ∷ c.signals.result ∷ c.args.bytes ∷ [])) (shown_text c.new-view.result.text.now c.new-view.result.words.now c.new-view.result.places.now) c.args.out.now c.put_record.new.out c.in_ok-at.at w c.in_err-length.field-0.0
+          (c.in_err-length.ensures.answer ∙ ap (put_answer_of 0 (shown_text c.new-view.result.text.now c.new-view.result.words.now c.new-view.result.places.now)) (take_rest c.put_record.new.out c.in_ok-at.at)))
           ∙ ap (λ bs. put_answer_of 0 bs c.args.out.now) same;
-      output = IfOk-from_err c.from-residual-in-err-length.result _ c.from-residual-in-err-length.ensures.0;
+      output = IfOk-from_err c.from_residual-in_err-length.result _ c.from_residual-in_err-length.ensures.0;
     }
 
 pub returns : goal.returns
@@ -44,13 +44,13 @@ returns c =
     let same = report_same c.rows.result c.signals.result c.args.bytes c.new-view.result.text.now c.new-view.result.words.now c.args.text.now c.args.words.now
     c.new-view.result.places.now c.args.places.now c.rows.ensures.count c.signals.ensures.count
     (c.new-view.ensures.text ∙ cond-true _ _ _ c.requires) (c.new-view.ensures.words ∙ cond-true _ _ _ c.requires) (c.new-view.ensures.places ∙ cond-true _ _ _ c.requires) in
-    let w : Wrote 0 (record_line (codes "read") (c.rows.result ∷ c.signals.result ∷ c.args.bytes ∷ [])) c.args.out.now c.put-record.new.out c.in-ok-at.at =
-    wrote_put 0 [] (record_line (codes "read") (c.rows.result ∷ c.signals.result ∷ c.args.bytes ∷ [])) c.args.out.now c.args.out.now c.put-record.new.out 0 c.in-ok-at.at
-    (wrote_none 0 c.args.out.now (omega arith)) c.in-ok-at.ensures.answer c.in-ok-at.ensures.output in
-    let rest = take_rest c.put-record.new.out c.in-ok-at.at in
-    let g = granted_rest (record_line (codes "read") (c.rows.result ∷ c.signals.result ∷ c.args.bytes ∷ [])) (shown_text c.new-view.result.text.now c.new-view.result.words.now c.new-view.result.places.now) c.args.out.now c.put-record.new.out c.in-ok-at.at w c.in-ok-length.length c.write-table.new.out
-    (c.in-ok-length.ensures.answer ∙ ap (put_answer_of 0 (shown_text c.new-view.result.text.now c.new-view.result.words.now c.new-view.result.places.now)) rest) (c.in-ok-length.ensures.output ∙ ap (after_put 0 (shown_text c.new-view.result.text.now c.new-view.result.words.now c.new-view.result.places.now)) rest) in
+    let w : Wrote 0 (record_line (codes "read") (c.rows.result ∷ c.signals.result ∷ c.args.bytes ∷ [])) c.args.out.now c.put_record.new.out c.in_ok-at.at =
+    wrote_put 0 [] (record_line (codes "read") (c.rows.result ∷ c.signals.result ∷ c.args.bytes ∷ [])) c.args.out.now c.args.out.now c.put_record.new.out 0 c.in_ok-at.at
+    (wrote_none 0 c.args.out.now (omega arith)) c.in_ok-at.ensures.answer c.in_ok-at.ensures.output in
+    let rest = take_rest c.put_record.new.out c.in_ok-at.at in
+    let g = granted_rest (record_line (codes "read") (c.rows.result ∷ c.signals.result ∷ c.args.bytes ∷ [])) (shown_text c.new-view.result.text.now c.new-view.result.words.now c.new-view.result.places.now) c.args.out.now c.put_record.new.out c.in_ok-at.at w c.in_ok-length.length c.write_table.new.out
+    (c.in_ok-length.ensures.answer ∙ ap (put_answer_of 0 (shown_text c.new-view.result.text.now c.new-view.result.words.now c.new-view.result.places.now)) rest) (c.in_ok-length.ensures.output ∙ ap (after_put 0 (shown_text c.new-view.result.text.now c.new-view.result.words.now c.new-view.result.places.now)) rest) in
     record {
       answer = g.0 ∙ ap (λ bs. put_answer_of 0 bs c.args.out.now) same;
-      output = front_part c.in-ok-at.at c.put-record.new.out c.write-table.new.out ∙ g.1 ∙ ap (λ bs. put_at 0 bs c.args.out.now) same;
+      output = front_part c.in_ok-at.at c.put_record.new.out c.write_table.new.out ∙ g.1 ∙ ap (λ bs. put_at 0 bs c.args.out.now) same;
     }

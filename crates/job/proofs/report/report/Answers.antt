@@ -18,7 +18,7 @@ returns-in-Ok c =
     let h = c.in-Ok.ensures in
     record {
       answer = h.answer ∙ sym (ap count_of whole);
-      output = job_granted (length c.args.out.now) c.in-Ok.count (fitted c.args.text.now (length c.fill.new.self) read) c.fill.new.self c.report-table.new.out
+      output = job_granted (length c.args.out.now) c.in-Ok.count (fitted c.args.text.now (length c.fill.new.self) read) c.fill.new.self c.report_table.new.out
           zeros h.answer h.output
           ∙ sym (ap (output_after (length c.args.out.now)) whole);
       words = h.words ∙ sym (cond-false _ _ _ small);
@@ -36,7 +36,7 @@ returns-in-Err c =
     ∙ ap (λ n. fitted c.args.text.now n read) (sym size) in
     let h = c.in-Err.ensures in
     let same = c.refuse.ensures.answer in
-    let long : length c.report-table.new.out ≡ length c.args.out.now = search rules in
+    let long : length c.report_table.new.out ≡ length c.args.out.now = search rules in
     record {
       answer = ap Err same ∙ h.answer ∙ sym (ap count_of whole);
       output = job_refused (length c.args.out.now) (fitted c.args.text.now (length c.fill.new.self) read) c.in-Err.fault c.refuse.new.out
