@@ -27,7 +27,7 @@ fn listed(rt: HostRuntime) -> Result<(), Fail> {
         Ok(37)
     );
     assert_eq!(rt; &out[0..37], PAGE);
-    assert_eq!(rt; &out[37..40], &[0; 3]);
+    assert_eq!(rt; &out[37..40], [0u8; 3].as_slice());
     assert_eq!(rt; sets, [Set::new(2, 0)?, Set::new(2, 3)?, kept]);
     Ok(())
 }
@@ -38,8 +38,8 @@ fn too_few_places(rt: HostRuntime) -> Result<(), Fail> {
     let mut out = [7; 40];
     let answer = list_closed(TEXT, &mut [0; 2], &mut [NONE; 4], &mut sets, &mut out);
     assert_eq!(rt; answer, Err(JobFault::Tray(TrayFault::Full)));
-    assert_eq!(rt; &out[0..15], b"fault,C,21,0,0\n");
-    assert_eq!(rt; &out[15..40], &[0; 25]);
+    assert_eq!(rt; &out[0..15], b"fault,C,21,0,0\n".as_slice());
+    assert_eq!(rt; &out[15..40], [0u8; 25].as_slice());
     assert_eq!(rt; sets, [Set::new(2, 0)?]);
     Ok(())
 }
@@ -58,8 +58,8 @@ fn too_few_bytes(rt: HostRuntime) -> Result<(), Fail> {
         answer,
         Err(JobFault::Page(PageFault::Output(OutputFault::Full)))
     );
-    assert_eq!(rt; &short[0..15], b"fault,P,51,0,0\n");
-    assert_eq!(rt; &short[15..39], &[0; 24]);
+    assert_eq!(rt; &short[0..15], b"fault,P,51,0,0\n".as_slice());
+    assert_eq!(rt; &short[15..39], [0u8; 24].as_slice());
     Ok(())
 }
 
@@ -79,7 +79,7 @@ fn refused_text(rt: HostRuntime) -> Result<(), Fail> {
         answer,
         Err(JobFault::Table(TableFault::CellCount { line: 10 }))
     );
-    assert_eq!(rt; &out[0..16], b"fault,T,39,10,1\n");
+    assert_eq!(rt; &out[0..16], b"fault,T,39,10,1\n".as_slice());
     assert_eq!(rt; sets, [kept, kept]);
     Ok(())
 }

@@ -21,7 +21,7 @@ fn granted(rt: HostRuntime) {
     let mut out = [7; 40];
     assert_eq!(rt; report(TEXT, &mut words, &mut places, &mut out), Ok(28));
     assert_eq!(rt; &out[0..28], REPORT);
-    assert_eq!(rt; &out[28..40], &[0; 12]);
+    assert_eq!(rt; &out[28..40], [0u8; 12].as_slice());
     assert_eq!(rt; words, [1, 9]);
     assert_eq!(rt;
         places,
@@ -54,8 +54,8 @@ fn refused(rt: HostRuntime) {
         answer,
         Err(JobFault::Table(TableFault::NotCell { line: 8, byte: 1 }))
     );
-    assert_eq!(rt; &out[0..15], b"fault,T,40,8,1\n");
-    assert_eq!(rt; &out[15..32], &[0; 17]);
+    assert_eq!(rt; &out[0..15], b"fault,T,40,8,1\n".as_slice());
+    assert_eq!(rt; &out[15..32], [0u8; 17].as_slice());
     assert_eq!(rt; words, [9, 9]);
     assert_eq!(rt; places, [KEPT; 3]);
 }
@@ -92,7 +92,7 @@ fn full_output(rt: HostRuntime) {
     let mut short = [7; 33];
     let answer = report(text, &mut words, &mut places, &mut short);
     assert_eq!(rt; answer, Err(JobFault::Output(OutputFault::Full)));
-    assert_eq!(rt; &short[0..15], b"fault,P,51,0,0\n");
-    assert_eq!(rt; &short[15..33], &[0; 18]);
+    assert_eq!(rt; &short[0..15], b"fault,P,51,0,0\n".as_slice());
+    assert_eq!(rt; &short[15..33], [0u8; 18].as_slice());
     assert_eq!(rt; words, [1]);
 }

@@ -33,11 +33,11 @@ fn names(rt: HostRuntime) {
     let view = TableView::new(TEXT, &[1], &[FIRST, SECOND]);
     assert_eq!(rt; view.rows(), 1);
     assert_eq!(rt; view.signals(), 1);
-    assert_eq!(rt; view.row_name(0).bytes, b"ab");
-    assert_eq!(rt; view.signal_name(0).bytes, b"cd");
+    assert_eq!(rt; view.row_name(0).bytes, b"ab".as_slice());
+    assert_eq!(rt; view.signal_name(0).bytes, b"cd".as_slice());
     assert_eq!(rt; view.signal_name(0).place, SECOND);
     assert_eq!(rt; view.row_name(1).place, ABSENT);
-    assert_eq!(rt; view.signal_name(1).bytes, b"");
+    assert_eq!(rt; view.signal_name(1).bytes, b"".as_slice());
     assert_eq!(rt; view.signal_name(usize::MAX).place, ABSENT);
 }
 
@@ -107,8 +107,8 @@ fn written(rt: HostRuntime) {
     let view = TableView::new(TEXT, &[1], &[FIRST, SECOND]);
     let mut out = [7; 20];
     assert_eq!(rt; write_table(&view, &mut out), Ok(16));
-    assert_eq!(rt; &out[0..16], b"B\n\n1\n1\n\nab\ncd\nX\n");
-    assert_eq!(rt; &out[16..20], &[7, 7, 7, 7]);
+    assert_eq!(rt; &out[0..16], b"B\n\n1\n1\n\nab\ncd\nX\n".as_slice());
+    assert_eq!(rt; &out[16..20], [7u8, 7, 7, 7].as_slice());
     let mut short = [7; 15];
     assert_eq!(rt; write_table(&view, &mut short), Err(OutputFault::Full));
     assert_eq!(rt; short, [7; 15]);
