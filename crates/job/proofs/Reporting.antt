@@ -1,5 +1,5 @@
 -- What reading, and then writing, leaves in an output.
-use Rattle.std.proofs.Common.{◌≡◌, ℕ, ◌+◌, ◌-◌, ◌^◌, ◌<◌, ◌≤◌, Bool, true, false, cond, leb, ◌⊎◌, List, [], ◌∷◌, ◌++◌, length, take, drop, replicate, IfErr, Ok, Err, codes, decimal, Result, sym, refl, ap, ◌∙◌, subst, inl, inr, zero-add, arith, length-append}
+use Rattle.std.proofs.Common.{◌≡◌, ℕ, ◌+◌, ◌-◌, ◌^◌, ◌<◌, ◌≤◌, true, List, [], ◌∷◌, ◌++◌, length, take, drop, replicate, IfErr, Ok, Err, codes, decimal, Result, sym, refl, ap, ◌∙◌, subst, zero-add, arith, length-append}
 use Rattle.std.proofs.lemmas.Fmt.{length-decimal-le}
 use Rattle.std.proofs.lemmas.List.{append-nil, drop_all, drop-replicate, length-drop, length-replicate, take_at}
 use borrow.Rule.Slice.PartMut.{put_mid}

@@ -7,7 +7,7 @@ use Rattle.output.specs.Puts.{put_at}
 use Rattle.output.specs.Records.{record_line}
 use Rattle.table.specs.declared.faults.TableFault.{TableFault}
 use Rattle.table.specs.declared.place.Place.{Place}
-use Rattle.table.specs.Reading.{Contents, read_of, words_after, places_after}
+use Rattle.table.specs.Reading.{Contents, read_of}
 use Rattle.view.specs.Texts.{shown_text}
 use Rattle.job.specs.declared.faults.JobFault.{JobFault}
 use Rattle.job.specs.declared.faults.JobFault.TheVariants.{SmallOutput, Table, Output, Tray, Page}

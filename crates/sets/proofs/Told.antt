@@ -1,5 +1,5 @@
 -- What the tests of the code say of signals.
-use Rattle.std.proofs.Common.{◌≡◌, ℕ, ◌-◌, ◌/◌, ◌^◌, ◌<◌, eqb, ltb, Decides}
+use Rattle.std.proofs.Common.{◌≡◌, ℕ, ◌/◌, ◌^◌, ◌<◌, eqb, ltb, Decides}
 use native.Mathlib.Nat.{div-eq_of_lt}
 use lib.Bits.{bit_and}
 use Rattle.sets.specs.declared.set.Set.{Set}

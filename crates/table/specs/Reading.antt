@@ -1,5 +1,5 @@
 -- Reading a table text, line by line: the answer, or the first fault. Lines count from 1, positions from 0.
-use Rattle.std.specs.Prelude.{ℕ, zero, suc, ◌+◌, ◌-◌, ◌*◌, Bool, cond, not, ◌||◌, List, [], ◌∷◌, ◌++◌, length, take, drop, Some, None, Ok, Err, Option, Result, ◌==◌, nat_le, nat_lt}
+use Rattle.std.specs.Prelude.{ℕ, zero, suc, ◌+◌, ◌-◌, ◌*◌, cond, ◌||◌, List, [], ◌∷◌, ◌++◌, length, take, drop, Some, None, Ok, Err, Option, Result, ◌==◌, nat_le, nat_lt}
 use Rattle.text.specs.declared.faults.FieldFault.{FieldFault}
 use Rattle.text.specs.Lines.{line_end_of}
 use Rattle.text.specs.Numbers.{number_of}

@@ -32,7 +32,7 @@ fn rules_refused_when_full(rt: HostRuntime) -> Result<(), Fail> {
     let mut tray = Tray::new(&mut memory);
     tray.put(kept)?;
     assert_eq!(rt; tray.put(late), Err(TrayFault::Full));
-    assert_eq!(rt; tray.into_slice(), &[kept]);
+    assert_eq!(rt; tray.into_slice(), [kept].as_slice());
     Ok(())
 }
 
@@ -43,6 +43,6 @@ fn edges_up_to_the_limit(rt: HostRuntime) -> Result<(), Fail> {
     let mut tray = Tray::new(&mut memory);
     assert_eq!(rt; tray.capacity(), MAX_ENTRIES);
     tray.put(edge)?;
-    assert_eq!(rt; tray.entries(), &[edge]);
+    assert_eq!(rt; tray.entries(), [edge].as_slice());
     Ok(())
 }

@@ -1,10 +1,10 @@
 -- A text that was read shows its table, whose text is the text's own bytes.
-use Rattle.std.proofs.Common.{◌≡◌, ℕ, ◌+◌, ◌≤◌, Bool, true, leb, List, [], ◌∷◌, ◌++◌, map, length, take, drop, Ok, sym, refl, ap, ◌∙◌, subst}
+use Rattle.std.proofs.Common.{◌≡◌, ℕ, ◌+◌, true, leb, List, [], ◌∷◌, map, length, take, drop, Ok, sym, refl, ap, ◌∙◌, subst}
 use Rattle.std.specs.List.{AllByRecursion}
 use Rattle.std.proofs.lemmas.List.{take_at, drop_at, take-map, drop-map}
 use Rattle.std.proofs.lemmas.Bool.{le-leb, and_from}
 use Rattle.table.specs.declared.place.Place.{Place}
-use Rattle.table.specs.Grammar.{Fitting, ReadAs}
+use Rattle.table.specs.Grammar.{ReadAs}
 use Rattle.table.specs.Names.{part_at}
 use Rattle.table.specs.Reading.{Contents, read_of}
 use Rattle.table.specs.Tables.{Table, Lawful, text_of}

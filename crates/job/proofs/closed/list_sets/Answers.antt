@@ -1,15 +1,14 @@
-use Rattle.std.proofs.Common.{◌≡◌, ◌-◌, ◌≤◌, min, length, take, Ok, Err, sym, refl, ap, ◌∙◌, subst, arith, rules}
+use Rattle.std.proofs.Common.{◌≡◌, ◌-◌, ◌≤◌, min, length, take, Err, sym, ap, ◌∙◌, subst, arith}
 use Rattle.std.specs.Result.{result_map_both}
 use Rattle.std.specs.List.{AllByRecursion}
 use Rattle.std.proofs.lemmas.Result.{err_from_is_err_and}
 use Rattle.std.proofs.lemmas.Bool.{cond-true}
 use Rattle.operators.specs.TableClosure.{signals_of}
 use Rattle.output.specs.Puts.{put_at}
-use Rattle.page.specs.Pages.{signal_names}
 use Rattle.survey.specs.Fills.{Filled, words_of}
 use Rattle.theory.specs.Rows.{common}
 use Rattle.tray.specs.Tray.{max_entries}
-use Rattle.job.specs.Closed.{closed_words, page_of, paged}
+use Rattle.job.specs.Closed.{closed_words}
 use Rattle.job.proofs.ClosedPages.{kept_all, page_granted, page_refused, sets_refused, paged_same, page_of_same}
 use Rattle.job.proofs.closed.list_sets.Goals as goal
 

@@ -1,4 +1,4 @@
-use Rattle.std.proofs.Common.{◌≡◌, [], ◌∷◌, ◌++◌, length, take, drop, Ok, Err, codes, sym, refl, ap, ◌∙◌, arith, rules}
+use Rattle.std.proofs.Common.{[], ◌∷◌, Err, codes, sym, ap, ◌∙◌, arith}
 use Rattle.output.specs.Puts.{put_answer_of, put_at, after_put}
 use Rattle.output.specs.Records.{record_line}
 use Rattle.output.proofs.Sequels.{refused_front, refused_rest, granted_rest}

@@ -1,8 +1,7 @@
-use Rattle.std.proofs.Common.{◌≡◌, length, Ok, Err, sym, refl, ap, ◌∙◌, arith, rules}
+use Rattle.std.proofs.Common.{length, Err, ap, ◌∙◌, arith}
 use Rattle.std.proofs.lemmas.Result.{err_from_is_err_and}
 use Rattle.table.specs.Reading.{read_of}
-use Rattle.job.specs.declared.faults.JobFault.TheVariants.{Table, Output}
-use Rattle.job.proofs.Reporting.{reading_refused, Granted, granted, granted_fit, report_granted, report_refused}
+use Rattle.job.proofs.Reporting.{reading_refused, granted, granted_fit, report_granted, report_refused}
 use Rattle.job.proofs.report.report_table.Goals as goal
 
 pub returns-in_err-reading : goal.returns-in_err-reading

@@ -1,4 +1,4 @@
-use Rattle.std.proofs.Common.{◌≡◌, ◌^◌, ◌<◌, ◌≤◌, min, [], ◌∷◌, length, drop, Err, sym, refl, ap, ◌∙◌, subst, arith, length-append, rules, MatchResult}
+use Rattle.std.proofs.Common.{◌≡◌, ◌^◌, ◌<◌, ◌≤◌, min, [], ◌∷◌, length, drop, Err, sym, refl, ap, ◌∙◌, subst, arith, length-append, MatchResult}
 use Rattle.fault.specs.Layers.{in_trays}
 use Rattle.std.specs.List.{AllByRecursion}
 use Rattle.std.proofs.lemmas.Result.{err_from_is_err_and}

@@ -1,8 +1,7 @@
-use Rattle.std.proofs.Common.{◌≡◌, ◌^◌, ◌≤◌, min, length, take, drop, sym, refl, ap, ◌∙◌, arith, rules}
+use Rattle.std.proofs.Common.{◌≡◌, ◌^◌, ◌≤◌, min, length, take, drop, sym, ap, ◌∙◌, arith, rules}
 use Rattle.std.proofs.lemmas.List.{take_all, length-map}
 use Rattle.theory.specs.Closures.{closed_below}
 use Rattle.tray.specs.Tray.{capacity, entries, max_entries}
-use Rattle.survey.specs.Fills.{words_of}
 use Rattle.survey.proofs.Filling.{filled_memory}
 use Rattle.survey.proofs.fill.fill_memory.Goals as goal
 
