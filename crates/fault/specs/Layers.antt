@@ -30,6 +30,14 @@ in_tables = in_text 84
 abbrev pub in_output : ℕ → Fault
 in_output = textless 80
 
+-- drafts: `D`
+abbrev pub in_drafts : ℕ → Fault
+in_drafts = textless 68
+
+-- queries: `A`
+abbrev pub in_query : (number line byte : ℕ) → Fault
+in_query = in_text 65
+
 -- the job: `J`
 abbrev pub in_jobs : ℕ → Fault
 in_jobs = textless 74

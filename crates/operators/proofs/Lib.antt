@@ -1,3 +1,6 @@
+pub mod Alike
+pub mod Bits
+pub mod ByColumns
 pub mod Counting
 pub mod Passes
 pub mod Rows

@@ -16,7 +16,7 @@ cond_append :
 cond_append true x xs ys zs e = ap (λ l. x ∷ l) e
 cond_append false x xs ys zs e = e
 
-of_width_append : (m : ℕ) (rules more : List Rule) → of_width m (rules ++ more) ≡ of_width m rules ++ of_width m more
+pub of_width_append : (m : ℕ) (rules more : List Rule) → of_width m (rules ++ more) ≡ of_width m rules ++ of_width m more
 of_width_append m [] more = refl
 of_width_append m (r ∷ rules) more =
     cond_append (eqb r.premise.width m) (implication r) (of_width m rules) (of_width m (rules ++ more)) (of_width m more)

@@ -1,17 +1,16 @@
 -- What calls tell: of a set that is read, and of a word reckoned over the rules that count.
-use Rattle.std.proofs.Common.{◌≡◌, ℕ, ◌^◌, ◌<◌, Bool, List, take, Decides, sym, refl, ap, ◌∙◌, subst}
+use Rattle.std.proofs.Common.{◌≡◌, ℕ, ◌^◌, ◌<◌, ◌≤◌, Bool, true, false, List, length, get_or, take, Decides, sym, refl, ap, ◌∙◌, subst, arith}
+use Rattle.std.proofs.lemmas.Bool.{false≢true}
 use Rattle.sets.specs.declared.rule.Rule.{Rule}
 use Rattle.sets.specs.declared.set.Set.{Set}
 use Rattle.sets.specs.Set.{Inside}
 use Rattle.sets.proofs.Told.{inside_sub, sub_inside}
 use Rattle.theory.specs.Rules.{Trigger, inside, LeastKeeping, close, close_r}
 use Rattle.theory.proofs.Rules.{close_least}
-use Rattle.operators.specs.Entailment.{EntailedBy, HoldsIn}
-use Rattle.operators.specs.TableClosure.{signals_of}
-use Rattle.table.specs.declared.place.Place.{Place}
-use Rattle.theory.specs.Rows.{common}
+use Rattle.operators.specs.Entailment.{EntailedBy}
+use Rattle.theory.specs.Rows.{Holds}
 use Rattle.theory.specs.Words.{Sub}
-use Rattle.theory.proofs.Rows.{holds_common}
+use Rattle.theory.proofs.Members.{mem_get_d, mem_place}
 use Rattle.operators.specs.Heeded.{max_rules, of_width, of_width_within, heeded}
 
 -- ---- a set that is read
@@ -47,22 +46,18 @@ decides_entailed {m = m} {list = list} rules premise conclusion closed d w k l e
       λ f. d.1 (sub_inside conclusion closed (sym f.same ∙ sym w) (rw same f.entailed)),
     )
 
--- the test of the conclusion against the signals common to the rows with the premise
-pub decides_holds :
-    {b : Bool} (words viewed : List ℕ) (places put : List Place) (premise conclusion closed : Set) → Decides b (Inside conclusion closed)
-    → closed.width ≡ premise.width → premise.width ≡ signals_of words places → viewed ≡ words → put ≡ places
-    → closed.word ≡ common (signals_of viewed put) viewed premise.word → Decides b (HoldsIn words places premise conclusion)
-decides_holds words viewed places put premise conclusion closed d w k v p e =
-    let same : closed.word ≡ common (signals_of words places) words premise.word =
-    e ∙ ap (λ x. common (signals_of x put) x premise.word) v ∙ ap (λ x. common (signals_of words x) words premise.word) p in
-    let iff = holds_common (signals_of words places) words premise.word conclusion.word in (
-      λ t. let i = d.0 t in
-          let wide : conclusion.width ≡ signals_of words places = i.same ∙ w ∙ k in
-          record {
-            premise_width = k;
-            conclusion_width = wide;
-            holds = (iff (subst (λ n. conclusion.word < 2 ^ n) wide conclusion.below)).1 (subst (Sub conclusion.word) same (inside_sub conclusion closed i));
-          },
-      λ h. d.1 (sub_inside conclusion closed (h.conclusion_width ∙ sym k ∙ sym w)
-          (subst (Sub conclusion.word) (sym same) ((iff (subst (λ n. conclusion.word < 2 ^ n) h.conclusion_width conclusion.below)).0 h.holds))),
-    )
+-- ---- rows that are tested one by one
+
+module _ (rows : List ℕ) (premise conclusion : ℕ) where
+  -- one row that has the premise and not the conclusion
+  pub fails_holds :
+      (i : ℕ) → i < length rows → ((Sub premise (get_or rows i 0) → Sub conclusion (get_or rows i 0)) → ⊥) → Decides false (Holds rows premise conclusion)
+  fails_holds i lt n = (λ e. absurd (false≢true e), λ h. absurd (n (h (get_or rows i 0) (mem_get_d rows i 0 lt))))
+
+  -- no such row
+  pub all_holds :
+      (i : ℕ) → length rows ≤ i → ((k : ℕ) → k < i → Sub premise (get_or rows k 0) → Sub conclusion (get_or rows k 0)) → Decides true (Holds rows premise conclusion)
+  all_holds i le f = (
+    λ _ r p s. let place = mem_place rows 0 p in subst (Sub conclusion) place.2 (f place.0 (omega (arith, place.1)) (subst (Sub premise) (sym place.2) s)),
+    λ _. refl,
+  )

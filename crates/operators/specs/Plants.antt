@@ -1,5 +1,6 @@
 -- Small plants, worked by hand, on which the definitions give what they should.
 use Rattle.std.specs.Prelude.{◌≡◌, ℕ, List, [], ◌∷◌}
+use Rattle.theory.specs.Bases.{BaseUpto}
 use Rattle.theory.specs.Closures.{Closed, LeastClosed, Listing}
 use Rattle.theory.specs.Rows.{common}
 use Rattle.theory.specs.Rules.{Implication, close_r, close_s}
@@ -23,3 +24,10 @@ pub record Plants : Type 0 where
   pub crossed_rows : Listing (Closed (common 3 (5 ∷ 3 ∷ []))) 0 8 (1 ∷ 3 ∷ 5 ∷ 7 ∷ [])
   pub no_rows : Listing (Closed (common 2 [])) 0 4 (3 ∷ [])
   pub no_signals : Listing (Closed (common 0 (0 ∷ []))) 0 1 (0 ∷ [])
+
+-- the bases of the same plants, by the rules of their pseudo-closed sets
+pub record PlantBases : Type 0 where
+  pub base : BaseUpto 3 (common 3 plant) 8 plant_rules
+  pub crossed_base : BaseUpto 3 (common 3 (5 ∷ 3 ∷ [])) 8 (record { premise = 0; conclusion = 1 } ∷ [])
+  pub no_rows_base : BaseUpto 2 (common 2 []) 4 (record { premise = 0; conclusion = 3 } ∷ [])
+  pub no_signals_base : BaseUpto 0 (common 0 (0 ∷ [])) 1 []

@@ -1,8 +1,8 @@
 ghost use Rattle.operators.specs.Entailment.{HoldsIn};
 ghost use Rattle.std.specs.Prelude.{Decides};
+ghost use Rattle.theory.specs.Rows.{Holds};
+ghost use Rattle.theory.specs.Words.{Sub};
 
-use crate::operator::Operator;
-use crate::table_closure::TableClosure;
 use sets::set::Set;
 use view::table_view::TableView;
 
@@ -10,8 +10,27 @@ use view::table_view::TableView;
 pub fn holds(view: &TableView, premise: Set, conclusion: Set) -> bool
     ensures told { Decides result (HoldsIn view.now.words.now view.now.places.now premise conclusion) }
 {
-    if premise.width() != view.signals() {
-        return false;
+    let width = view.signals();
+    premise.width() == width
+        && conclusion.width() == width
+        && rows_hold(view.words(), premise.word(), conclusion.word())
+}
+
+// Whether each row that contains the premise contains the conclusion.
+fn rows_hold(rows: &[u64], premise: u64, conclusion: u64) -> bool
+    ensures told { Decides result (Holds rows.now premise conclusion) }
+{
+    for row in rows {
+        if !row_holds(*row, premise, conclusion) {
+            return false;
+        }
     }
-    conclusion.within(&TableClosure::new(*view).closure(premise))
+    true
+}
+
+// Whether the row lacks a signal of the premise, or contains the conclusion.
+fn row_holds(row: u64, premise: u64, conclusion: u64) -> bool
+    ensures told { Decides result (Sub premise row → Sub conclusion row) }
+{
+    premise & row != premise || conclusion & row == conclusion
 }

@@ -2,6 +2,7 @@
 
 #![tactic(auto)]
 
+mod columns;
 pub mod entails;
 pub mod heeded;
 pub mod holds;

@@ -1,6 +1,8 @@
 ghost use Rattle.std.specs.Prelude.{◌≡◌, ℕ, ◌≢◌};
+ghost use Rattle.operators.specs.Trials.{Tried};
 ghost use Rattle.theory.specs.Closures.{Closure};
 
+use crate::word::are_alike;
 use sets::set::Set;
 
 // A closure operator: it has a width, a letter that its pages carry, and one question, the closure of a set.
@@ -33,4 +35,16 @@ pub trait Operator {
         ensures width { result.width ≡ set.width }
         ensures closed { set.width ≡ span self.now → result.word ≡ means self.now set.word }
         ensures other { (set.width ≢ span self.now) → result ≡ set };
+
+    // The closure of a set, or none where it brings a signal above the bit; a set of another width is given back.
+    fn trial(&self, set: Set, bit: usize) -> Option<Set>
+        ensures { Tried (span self.now) (means self.now) set bit result }
+    {
+        let closed = self.closure(set);
+        if are_alike(closed.word(), set.word(), bit) {
+            Some(closed)
+        } else {
+            None
+        }
+    }
 }

@@ -1,8 +1,9 @@
-ghost use Rattle.operators.specs.Plants.{Plants};
+ghost use Rattle.operators.specs.Plants.{PlantBases, Plants};
 
 // Nothing to do: the clause states what the definitions give on small plants.
 pub fn plants_stand() -> u8
     ensures plants { Plants }
+    ensures bases { PlantBases }
 {
     0
 }

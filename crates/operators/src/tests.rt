@@ -27,6 +27,24 @@ fn rows_of_a_table(rt: HostRuntime) -> Result<(), Fail> {
 }
 
 #[test]
+fn few_rows_and_many(rt: HostRuntime) -> Result<(), Fail> {
+    let places = [Place {
+        start: 0,
+        length: 1,
+    }; 73];
+    let few = TableClosure::new(TableView::new(b"x", &[0b10110], &places[0..6]));
+    assert_eq!(rt; few.closure(Set::new(5, 0b00100)?).word(), 0b10110);
+    assert_eq!(rt; few.closure(Set::new(5, 0b00001)?).word(), 0b11111);
+    let mut words = [0b110; 70];
+    words[69] = 0b011;
+    let many = TableClosure::new(TableView::new(b"x", &words, &places));
+    assert_eq!(rt; many.closure(Set::new(3, 0b000)?).word(), 0b010);
+    assert_eq!(rt; many.closure(Set::new(3, 0b001)?).word(), 0b011);
+    assert_eq!(rt; many.closure(Set::new(3, 0b101)?).word(), 0b111);
+    Ok(())
+}
+
+#[test]
 fn rules_in_a_chain(rt: HostRuntime) -> Result<(), Fail> {
     let [none, first, second] = [
         Set::new(3, 0b000)?,

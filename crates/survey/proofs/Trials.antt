@@ -1,11 +1,12 @@
 -- The trial of one signal, as the loop writes it: the word tried, and what a signal that passes or fails shows.
 use Rattle.std.proofs.Common.{◌≡◌, ℕ, suc, ◌+◌, ◌-◌, ◌*◌, ◌/◌, ◌%◌, ◌^◌, ◌<◌, ◌≤◌, sym, ap, ◌∙◌, subst, mod-eq_of_lt, add-one, arith, pow_mono}
 use native.Mathlib.Decide.{ℕ_discrete}
+use Rattle.operators.specs.Trials.{Alike}
 use Rattle.sets.specs.declared.set.Set.{Set}
 use Rattle.sets.specs.Set.{Fit}
 use Rattle.theory.specs.Words.{max_signals}
 use Rattle.theory.specs.Closures.{Closure, LeastClosed}
-use Rattle.theory.proofs.Next.{trial, Passes, NotYet, trial_lacks, trial_lt, trial_from, shr_suc, lt_by_shr, not_yet_has, not_yet_fails, found, ended}
+use Rattle.theory.proofs.Next.{trial, Passes, NotYet, trial_lacks, trial_above, trial_lt, trial_from, shr_suc, lt_by_shr, not_yet_has, not_yet_fails, found, ended}
 
 module _ (m a k : ℕ) (fit : Fit m a) (low : k < m) (lacks : a / 2 ^ k % 2 ≡ 0) where
   pub tried_word : (a / 2 ^ k + 1) * 2 ^ k % 2 ^ 64 ≡ trial a k
@@ -27,40 +28,43 @@ module _ (m a k : ℕ) (fit : Fit m a) (low : k < m) (lacks : a / 2 ^ k % 2 ≡ 
 pub goes_past : (c : ℕ → ℕ) (a k : ℕ) → NotYet c a k → (a / 2 ^ k % 2 ≡ 0 → ⊥) → NotYet c a (k + 1)
 goes_past c a k yet has = subst (λ x. NotYet c a x) (sym (add-one k)) (not_yet_has c a k yet (omega arith))
 
--- the operator's answer to the word tried, whose word is read as y
-module _
-    (m span : ℕ) (c : ℕ → ℕ) (a k y : ℕ) (answer : Set) (fit : Fit m a) (low : k < m) (lacks : a / 2 ^ k % 2 ≡ 0)
-    (closed : m ≡ span → answer.word ≡ c ((a / 2 ^ k + 1) * 2 ^ k % 2 ^ 64)) (read : y ≡ answer.word)
-  where
-    answered : m ≡ span → y ≡ c (trial a k)
-    answered e = read ∙ closed e ∙ ap c (tried_word m a k fit low lacks)
+-- the operator's answer to the word tried
+module _ (m span : ℕ) (c : ℕ → ℕ) (a k : ℕ) (fit : Fit m a) (low : k < m) (lacks : a / 2 ^ k % 2 ≡ 0) where
+  -- the word as the code has it
+  abbrev tried : ℕ
+  tried = (a / 2 ^ k + 1) * 2 ^ k % 2 ^ 64
 
-    passing : m ≡ span → y / 2 ^ k / 2 ≡ a / 2 ^ k / 2 → Passes c a k
-    passing e same = ap (λ x. x / 2 ^ suc k) (sym (answered e)) ∙ shr_suc y k ∙ same ∙ sym (shr_suc a k)
+  is : tried ≡ trial a k
+  is = tried_word m a k fit low lacks
 
-    pub goes_on : m ≡ span → NotYet c a k → (y / 2 ^ k / 2 ≡ a / 2 ^ k / 2 → ⊥) → NotYet c a (k + 1)
-    goes_on e yet differs =
-        subst (λ x. NotYet c a x) (sym (add-one k))
-        (not_yet_fails c a k yet
-        (λ p. differs (sym (shr_suc y k) ∙ ap (λ x. x / 2 ^ suc k) (answered e) ∙ p ∙ shr_suc a k)))
+  alike_passes : Alike k (c tried) tried → Passes c a k
+  alike_passes same = subst (λ x. Alike k (c x) x) is same ∙ trial_above a k
 
-    module _ (op : Closure span c) (yet : m ≡ span → NotYet c a k) (same : y / 2 ^ k / 2 ≡ a / 2 ^ k / 2) where
-      next : m ≡ span → LeastClosed m c (suc a) answer.word
-      next e =
+  passes_alike : Passes c a k → Alike k (c tried) tried
+  passes_alike pass = subst (λ x. Alike k (c x) x) (sym is) (pass ∙ sym (trial_above a k))
+
+  pub goes_on : NotYet c a k → (Alike k (c ((a / 2 ^ k + 1) * 2 ^ k % 2 ^ 64)) ((a / 2 ^ k + 1) * 2 ^ k % 2 ^ 64) → ⊥) → NotYet c a (k + 1)
+  goes_on yet differs =
+      subst (λ x. NotYet c a x) (sym (add-one k)) (not_yet_fails c a k yet (λ p. differs (passes_alike p)))
+
+  -- the set found; at another width the word tried is given back
+  module _
+      (op : Closure span c) (yet : m ≡ span → NotYet c a k) (set : Set)
+      (closed : m ≡ span → (set.word ≡ c ((a / 2 ^ k + 1) * 2 ^ k % 2 ^ 64)) × Alike k (c ((a / 2 ^ k + 1) * 2 ^ k % 2 ^ 64)) ((a / 2 ^ k + 1) * 2 ^ k % 2 ^ 64))
+      (other : (m ≡ span → ⊥) → set.word ≡ (a / 2 ^ k + 1) * 2 ^ k % 2 ^ 64)
+    where
+      pub found_next : m ≡ span → LeastClosed m c (suc a) set.word
+      found_next e =
           let closure : Closure m c = subst (λ x. Closure x c) (sym e) op in
-          subst (λ x. LeastClosed m c (suc a) x) (sym (answered e) ∙ read)
-          (found m c closure a fit.below k low (yet e) lacks (passing e same))
+          subst (λ x. LeastClosed m c (suc a) x) (sym ((closed e).0 ∙ ap c is))
+          (found m c closure a fit.below k low (yet e) lacks (alike_passes (closed e).1))
 
-      -- the set found; at another width the word tried is given back
-      pub found_here :
-          (set : Set) → set ≡ answer → ((m ≡ span → ⊥) → answer.word ≡ (a / 2 ^ k + 1) * 2 ^ k % 2 ^ 64)
-          → (a < set.word) × (m ≡ span → LeastClosed m c (suc a) set.word)
-      found_here set is other =
-          subst (λ (s : Set). (a < s.word) × (m ≡ span → LeastClosed m c (suc a) s.word)) (sym is) (at (ℕ_discrete m span), next)
+      pub found_after : a < set.word
+      found_after = at (ℕ_discrete m span)
         where
-          at : Dec (m ≡ span) → a < answer.word
-          at (yes e) = (next e).above
-          at (no n) = omega (arith, other n, tried_word m a k fit low lacks, trial_after m a k fit low lacks)
+          at : Dec (m ≡ span) → a < set.word
+          at (yes e) = (found_next e).above
+          at (no n) = omega (arith, other n, is, trial_after m a k fit low lacks)
 
 -- every signal has been tried
 pub none_left :

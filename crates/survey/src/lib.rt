@@ -4,7 +4,7 @@
 
 pub mod call;
 pub mod fill;
-mod next;
+pub mod next;
 pub mod run;
 pub mod state;
 pub mod survey;

@@ -1,4 +1,5 @@
 ghost use Rattle.std.specs.Prelude.{◌≡◌, suc, ◌-◌, ◌^◌, ◌<◌, ◌≤◌, IsSomeAnd, IfSome, MatchOption, ◌≢◌};
+ghost use Rattle.operators.specs.Trials.{Alike};
 ghost use Rattle.sets.specs.Set.{Fit};
 ghost use Rattle.theory.specs.Closures.{LeastClosed};
 
@@ -13,6 +14,18 @@ fn closure_of<O: Operator>(operator: &O, width: usize, word: u64) -> Set
     ensures other { (width ≢ O.Operator.span operator.now) → result.word ≡ word }
 {
     operator.closure(Set::new(width, word).unwrap())
+}
+
+// The trial of a word, as the operator answers it.
+fn try_word<O: Operator>(operator: &O, width: usize, word: u64, bit: usize) -> Option<Set>
+    requires fit { Fit width word }
+    ensures tried { MatchOption result
+        ((width ≡ O.Operator.span operator.now) × (Alike bit (O.Operator.means operator.now word) word → ⊥))
+        (λ found. (found.width ≡ width)
+        × (width ≡ O.Operator.span operator.now → (found.word ≡ O.Operator.means operator.now word) × Alike bit (O.Operator.means operator.now word) word)
+        × ((width ≢ O.Operator.span operator.now) → found.word ≡ word)) }
+{
+    operator.trial(Set::new(width, word).unwrap(), bit)
 }
 
 // NextClosure: the least closed set after a word, with the number of signals tried; none comes after the full set.
@@ -32,8 +45,7 @@ pub(crate) fn next_after<O: Operator>(operator: &O, width: usize, last: u64) -> 
         let above = last >> bit;
         if above % 2 == 0 {
             trials += 1;
-            let closed = closure_of(operator, width, (above + 1) << bit);
-            if closed.word() >> bit >> 1 == above >> 1 {
+            if let Some(closed) = try_word(operator, width, (above + 1) << bit, bit) {
                 break Some(closed);
             }
         }
@@ -59,4 +71,18 @@ pub(crate) fn first_from<O: Operator>(
     } else {
         next_after(operator, width, start)
     }
+}
+
+// The least closed set after one; none after the full set, and none where the operator closes sets of another width.
+pub fn least_after<O: Operator>(operator: &O, last: Set) -> Option<Set>
+    ensures least { MatchOption result
+        (last.width ≡ O.Operator.span operator.now → last.word ≡ 2 ^ last.width - 1)
+        (λ set. (last.width ≡ O.Operator.span operator.now) × (set.width ≡ last.width)
+        × LeastClosed last.width (O.Operator.means operator.now) (suc last.word) set.word) }
+{
+    if last.width() != operator.width() {
+        return None;
+    }
+    let (set, _) = next_after(operator, last.width(), last.word())?;
+    Some(set)
 }

@@ -1,6 +1,6 @@
 -- Ganter's theorem: over the base of the words below a mark, the least word from the mark on that is closed under S is closed or pseudo-closed,
 -- and before it there is neither. So the base grows word by word.
-use Rattle.std.proofs.Common.{◌≡◌, ℕ, zero, suc, ◌-◌, ◌^◌, ◌<◌, ◌≤◌, Bool, true, false, not, ◌&&◌, eqb, ◌≢◌, ◌⊎◌, ◌↔◌, List, [], ◌∷◌, ◌++◌, map, sym, refl, ap, ◌∙◌, subst, inl, inr, ⊎_elim, arith, pow_pos}
+use Rattle.std.proofs.Common.{◌≡◌, ℕ, zero, suc, ◌+◌, ◌-◌, ◌^◌, ◌<◌, ◌≤◌, Bool, true, false, cond, not, ◌&&◌, eqb, ◌≢◌, ◌⊎◌, ◌↔◌, List, [], ◌∷◌, ◌++◌, map, sym, refl, ap, ◌∙◌, subst, inl, inr, ⊎_elim, append_assoc, append-nil, zero-add, arith, pow_pos}
 use mathlib.Core.List.Memᴰ
 use mathlib.Core.List.{Memᴰ, map-append}
 use native.Mathlib.Decide.{ℕ_discrete}
@@ -195,3 +195,23 @@ module _ (m : ℕ) (c : ℕ → ℕ) (op : Closure m c) where
   base_full {rules} base =
       let last : suc (2 ^ m - 1) ≡ 2 ^ m = omega (arith, pow_pos m) in
       subst (λ n. BaseUpto m c n rules) last (base_pass m c base (full_not_pseudo m c op))
+
+-- the base of the words below d begins that of the words below any larger number
+pub base_below_front : (m : ℕ) (c : ℕ → ℕ) (d k : ℕ) → (rest : List Implication) × (base_below m c (k + d) ≡ base_below m c d ++ rest)
+base_below_front m c d zero = ([], ap (base_below m c) (zero-add d) ∙ sym (append-nil (base_below m c d)))
+base_below_front m c d (suc k) = at (base_below_front m c d k)
+  where
+    n : ℕ
+    n = k + d
+
+    next : suc k + d ≡ suc n
+    next = omega arith
+
+    more : (b : Bool) (rest : List Implication) → base_below m c n ≡ base_below m c d ++ rest
+        → (longer : List Implication) × (cond b (base_below m c n ++ rule_of c n ∷ []) (base_below m c n) ≡ base_below m c d ++ longer)
+    more true rest e = (rest ++ rule_of c n ∷ [], ap (λ xs. xs ++ rule_of c n ∷ []) e ∙ append_assoc (base_below m c d) rest (rule_of c n ∷ []))
+    more false rest e = (rest, e)
+
+    at : (rest : List Implication) × (base_below m c n ≡ base_below m c d ++ rest) → (rest : List Implication) × (base_below m c (suc k + d) ≡ base_below m c d ++ rest)
+    at (rest, e) =
+        let f = more (eqb (close_s m (base_below m c n) n) n && not (eqb (c n) n)) rest e in (f.0, ap (base_below m c) next ∙ f.1)

@@ -1,11 +1,11 @@
 -- Pseudo-closed sets: the definition as it is stated, its one solution, its test, and the meet of two of them.
-use Rattle.std.proofs.Common.{◌≡◌, ℕ, zero, suc, ◌-◌, ◌^◌, ◌<◌, ◌↔◌, arith}
+use Rattle.std.proofs.Common.{◌≡◌, ℕ, zero, suc, ◌-◌, ◌^◌, ◌<◌, true, ◌↔◌, arith}
 use native.Mathlib.Decide.{ℕ_discrete, dec_lt}
 use lib.Bits.{bit_and}
 use Rattle.theory.specs.Words.{Sub, Proper}
 use Rattle.theory.specs.Closures.{Closure, Closed}
 use Rattle.theory.specs.Rules.{proper}
-use Rattle.theory.specs.Bases.{PseudoOver, PseudoAsStated, PseudoAt, Pseudo}
+use Rattle.theory.specs.Bases.{PseudoOver, PseudoAsStated, Textbook, PseudoAt, Pseudo}
 use Rattle.theory.proofs.Lattice.{sub_antisym, sub_lt, sub_dec, proper_lt, meet_left, meet_right, meet_greatest}
 use Rattle.theory.proofs.Closures.{full_closed}
 use Rattle.theory.proofs.Rules.{fires_dec, fires_larger}
@@ -48,6 +48,9 @@ module _ (m : ℕ) (c : ℕ → ℕ) where
 
   pub pseudo_only : (P : ℕ → Type 0) → PseudoAsStated m c P → (p : ℕ) → P p ↔ Pseudo m c p
   pseudo_only P stated p = stated_same P (Pseudo m c) stated pseudo_stated p
+
+  pub textbook : Textbook m c
+  textbook = record { stated = pseudo_stated; only = λ test. pseudo_only (λ p. test p ≡ true) }
 
 -- ---- the test
 

@@ -3,7 +3,7 @@
 --   pseudo-closed   said of a set that is not closed, and that contains the closure of each pseudo-closed proper part of it
 --   base            the implications from each pseudo-closed set to its closure, in the lectic order of the premises
 --   exact           said of a list of implications: it entails just what holds under the operator
-use Rattle.std.specs.Prelude.{◌≡◌, ℕ, zero, suc, ◌^◌, ◌<◌, ◌≤◌, cond, not, ◌&&◌, ◌≢◌, ◌↔◌, List, [], ◌∷◌, ◌++◌, map, length, ◌==◌}
+use Rattle.std.specs.Prelude.{◌≡◌, ℕ, zero, suc, ◌^◌, ◌<◌, ◌≤◌, Bool, true, cond, not, ◌&&◌, ◌≢◌, ◌↔◌, List, [], ◌∷◌, ◌++◌, map, length, ◌==◌}
 use mathlib.Core.List.{Memᴰ}
 use Rattle.theory.specs.Words.{Sub, Proper}
 use Rattle.theory.specs.Closures.{Listing}
@@ -27,6 +27,11 @@ PseudoAt m c (suc n) p = PseudoOver m c (PseudoAt m c n) p
 -- p is pseudo-closed
 unfoldable pub Pseudo : (m : ℕ) (c : ℕ → ℕ) (p : ℕ) → Type 0
 Pseudo m c p = PseudoAt m c (suc p) p
+
+-- pseudo-closed is as it is stated, and no other test of sets is
+pub record Textbook (m : ℕ) (c : ℕ → ℕ) : Type 0 where
+  pub stated : PseudoAsStated m c (Pseudo m c)
+  pub only : (test : ℕ → Bool) → PseudoAsStated m c (λ p. test p ≡ true) → (p : ℕ) → (test p ≡ true) ↔ Pseudo m c p
 
 -- the implication from a set to its closure
 abbrev pub rule_of : (c : ℕ → ℕ) (p : ℕ) → Implication

@@ -3,6 +3,8 @@ use mathlib.Core.List.Memᴰ
 use mathlib.Core.List.{Memᴰ}
 use Rattle.theory.specs.Rows.{common}
 use Rattle.theory.specs.Closures.{LeastClosed}
+use Rattle.theory.proofs.Ganter.{base_below_base}
+use Rattle.theory.proofs.Rows.{common_closure}
 use Rattle.theory.proofs.Listing.{closed_below_listing}
 use Rattle.operators.specs.Plants.{plant}
 use Rattle.operators.proofs.plants.plants_stand.Goals as goal
@@ -46,5 +48,12 @@ returns c =
             crossed_rows = closed_below_listing (common 3 (5 ∷ 3 ∷ [])) 8;
             no_rows = closed_below_listing (common 2 []) 4;
             no_signals = closed_below_listing (common 0 (0 ∷ [])) 1;
+          };
+      bases =
+          record {
+            base = base_below_base 3 (common 3 plant) (common_closure 3 plant (omega arith)) 8 (omega arith);
+            crossed_base = base_below_base 3 (common 3 (5 ∷ 3 ∷ [])) (common_closure 3 (5 ∷ 3 ∷ []) (omega arith)) 8 (omega arith);
+            no_rows_base = base_below_base 2 (common 2 []) (common_closure 2 [] (omega arith)) 4 (omega arith);
+            no_signals_base = base_below_base 0 (common 0 (0 ∷ [])) (common_closure 0 (0 ∷ []) (omega arith)) 1 (omega arith);
           };
     }

@@ -7,7 +7,7 @@ use Rattle.operators.proofs.proper_rule_closure.ProperRuleClosureOperator.closur
 pub with_word-requires : goal.with_word-requires
 with_word-requires c =
     (close_told proper c.args.self.now.rules.now
-    (told_close proper c.args.self.now.rules.now c.saturated.ensures.closed (sym c.if-width-self.false ∙ c.width.ensures.value) c.first_rules.ensures.first
+    (told_close proper c.args.self.now.rules.now c.closed_word.ensures.closed (sym c.if-width-self.false ∙ c.width.ensures.value) c.first_rules.ensures.first
     c.word.ensures.value)
     c.args.set.below).below
 
@@ -16,7 +16,7 @@ returns c =
     let rules = c.args.self.now.rules.now in
     let same : c.with_word.result.word ≡ close_s c.args.set.width (heeded c.args.set.width rules) c.args.set.word =
     c.with_word.ensures.word
-    ∙ told_close proper rules c.saturated.ensures.closed (sym c.if-width-self.false ∙ c.width.ensures.value) c.first_rules.ensures.first
+    ∙ told_close proper rules c.closed_word.ensures.closed (sym c.if-width-self.false ∙ c.width.ensures.value) c.first_rules.ensures.first
     c.word.ensures.value in
     record {
       width = c.with_word.ensures.width;
