@@ -1,13 +1,26 @@
-ghost use Rattle.std.specs.Prelude.{◌≡◌, ◌+◌, ◌*◌, ◌≤◌, [], ◌∷◌, ◌++◌, length, Ok, codes};
+ghost use Rattle.std.specs.Prelude.{◌≡◌, ◌+◌, ◌*◌, ◌≤◌, [], ◌∷◌, ◌++◌, length, Ok, codes, MatchResult, bit_xor};
 ghost use Rattle.output.specs.Puts.{put_at};
 ghost use Rattle.output.specs.Records.{number_fields};
-ghost use Rattle.page.specs.Pages.{chosen, name_fields, names_line, signal_names};
+ghost use Rattle.page.specs.Pages.{chosen, counted_names, name_fields, names_line, rule_names_line, signal_names};
+ghost use Rattle.sets.specs.Set.{Fit};
 
 use output::faults::OutputFault;
 use output::number::put_number;
 use output::put::put;
+use sets::faults::SetFault;
+use sets::rule::Rule;
 use sets::set::Set;
 use view::table_view::TableView;
+
+// The signals that a rule adds to its premise.
+pub(crate) fn added(rule: Rule) -> Result<Set, SetFault>
+    ensures answer { MatchResult result
+        (λ set. (set.width ≡ rule.premise.width) × (set.word ≡ bit_xor rule.conclusion.word rule.premise.word))
+        (λ _. Fit rule.premise.width (bit_xor rule.conclusion.word rule.premise.word) → ⊥) }
+{
+    let premise = rule.premise();
+    Set::new(premise.width(), rule.conclusion().word() ^ premise.word())
+}
 
 // Counts the names of a set's signals, and their bytes with a comma before each.
 pub(crate) fn count_names(view: &TableView, set: Set) -> (usize, usize)
@@ -58,6 +71,47 @@ fn put_numbers(out: &mut [u8], at: usize, place: usize, count: usize) -> Result<
     let at = put_number(out, at, place)?;
     let at = put(out, at, b",")?;
     put_number(out, at, count)
+}
+
+// Puts the line of a rule whose premise and added signals are these sets, with the number of signals of each.
+pub(crate) fn put_rule(
+    out: &mut [u8],
+    at: usize,
+    view: &TableView,
+    premise: (Set, usize),
+    more: (Set, usize),
+) -> Result<usize, OutputFault>
+    requires premise_width { premise.0.width ≡ length (signal_names view.now.text.now view.now.words.now view.now.places.now) }
+    requires more_width { more.0.width ≡ length (signal_names view.now.text.now view.now.words.now view.now.places.now) }
+    requires premise_count { premise.1 ≡ length (chosen premise.0.width premise.0.word (signal_names view.now.text.now view.now.words.now view.now.places.now)) }
+    requires more_count { more.1 ≡ length (chosen more.0.width more.0.word (signal_names view.now.text.now view.now.words.now view.now.places.now)) }
+    requires room { at + length (rule_names_line (chosen premise.0.width premise.0.word (signal_names view.now.text.now view.now.words.now view.now.places.now)) (chosen more.0.width more.0.word (signal_names view.now.text.now view.now.words.now view.now.places.now))) ≤ length out.old }
+    ensures answer { result ≡ Ok (at + length (rule_names_line (chosen premise.0.width premise.0.word (signal_names view.now.text.now view.now.words.now view.now.places.now)) (chosen more.0.width more.0.word (signal_names view.now.text.now view.now.words.now view.now.places.now)))) }
+    ensures output { out.new ≡ put_at at (rule_names_line (chosen premise.0.width premise.0.word (signal_names view.now.text.now view.now.words.now view.now.places.now)) (chosen more.0.width more.0.word (signal_names view.now.text.now view.now.words.now view.now.places.now))) out.old }
+{
+    let at = put(out, at, b"rule")?;
+    let at = put_counted(out, at, view, premise.0, premise.1)?;
+    let at = put_counted(out, at, view, more.0, more.1)?;
+    put(out, at, b"\n")
+}
+
+// Puts the number of a set's signals and their names, each behind a comma.
+fn put_counted(
+    out: &mut [u8],
+    at: usize,
+    view: &TableView,
+    set: Set,
+    count: usize,
+) -> Result<usize, OutputFault>
+    requires whole { set.width ≡ length (signal_names view.now.text.now view.now.words.now view.now.places.now) }
+    requires counted { count ≡ length (chosen set.width set.word (signal_names view.now.text.now view.now.words.now view.now.places.now)) }
+    requires room { at + length (counted_names (chosen set.width set.word (signal_names view.now.text.now view.now.words.now view.now.places.now))) ≤ length out.old }
+    ensures answer { result ≡ Ok (at + length (counted_names (chosen set.width set.word (signal_names view.now.text.now view.now.words.now view.now.places.now)))) }
+    ensures output { out.new ≡ put_at at (counted_names (chosen set.width set.word (signal_names view.now.text.now view.now.words.now view.now.places.now))) out.old }
+{
+    let at = put(out, at, b",")?;
+    let at = put_number(out, at, count)?;
+    put_names(out, at, view, set)
 }
 
 // Puts the name of each of a set's signals behind a comma.

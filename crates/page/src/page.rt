@@ -2,6 +2,7 @@ ghost use Rattle.std.specs.Prelude.{◌≤◌};
 
 mod calls;
 mod closed;
+mod rules;
 
 // The bytes behind a begun page that are set aside for its foot.
 pub const FOOT_BYTES: usize = 9;

@@ -7,6 +7,7 @@ use crate::page::Page;
 use operators::operator::Operator;
 use output::faults::OutputFault;
 use sets::faults::SetFault;
+use sets::rule::Rule;
 use sets::set::Set;
 use std::test::Fail;
 use table::place::Place;
@@ -87,4 +88,53 @@ fn refuses_a_line_for_one_byte(rt: HostRuntime) -> Result<(), Fail> {
     assert_eq!(rt; end, Ok(17));
     assert!(rt; out == *b"closed,E,2\nend,0\n\0\0\0\0\0\0\0\0\0\0\0\0\0\0");
     Ok(())
+}
+
+#[test]
+fn puts_rules_to_the_last_byte(rt: HostRuntime) -> Result<(), Fail> {
+    let mut out = [0; 52];
+    let view = TableView::new(b"pq", &[], &PLACES);
+    let first = Rule::new(Set::new(2, 1)?, Set::new(2, 3)?)?;
+    let second = Rule::new(Set::new(2, 0)?, Set::new(2, 2)?)?;
+    let third = Rule::new(Set::new(2, 2)?, Set::new(2, 2)?)?;
+    let mut page = Page::begin_rules(&mut out, 0, &view)?;
+    let one = page.rule_line(&mut out, &view, first);
+    let two = page.rule_line(&mut out, &view, second);
+    let three = page.rule_line(&mut out, &view, third);
+    let end = page.foot(&mut out);
+    assert_eq!(rt; one, Ok(()));
+    assert_eq!(rt; two, Ok(()));
+    assert_eq!(rt; three, Ok(()));
+    assert_eq!(rt; end, Ok(49));
+    assert!(rt; out == *b"rules,2\nrule,1,q,1,p\nrule,0,1,p\nrule,1,p,0\nend,3\n\0\0\0");
+    Ok(())
+}
+
+#[test]
+fn refuses_a_rule_for_one_byte(rt: HostRuntime) -> Result<(), Fail> {
+    let mut out = [0; 29];
+    let view = TableView::new(b"pq", &[], &PLACES);
+    let rule = Rule::new(Set::new(2, 1)?, Set::new(2, 3)?)?;
+    let wide = Rule::new(Set::new(3, 1)?, Set::new(3, 3)?)?;
+    let mut page = Page::begin_rules(&mut out, 0, &view)?;
+    let line = page.rule_line(&mut out, &view, rule);
+    let other = page.rule_line(&mut out, &view, wide);
+    let end = page.foot(&mut out);
+    assert_eq!(rt; line, Err(PageFault::Output(OutputFault::Full)));
+    assert_eq!(rt; other, Err(PageFault::Set(SetFault::OtherWidth)));
+    assert_eq!(rt; end, Ok(14));
+    assert!(rt; out == *b"rules,2\nend,0\n\0\0\0\0\0\0\0\0\0\0\0\0\0\0\0");
+    Ok(())
+}
+
+#[test]
+fn refuses_a_head_for_one_byte(rt: HostRuntime) {
+    let mut out = [0; 16];
+    let view = TableView::new(b"pq", &[], &PLACES);
+    let begun = match Page::begin_rules(&mut out, 0, &view) {
+        Ok(page) => page.foot(&mut out),
+        Err(refusal) => Err(refusal),
+    };
+    assert_eq!(rt; begun, Err(OutputFault::Full));
+    assert!(rt; out == [0; 16]);
 }
