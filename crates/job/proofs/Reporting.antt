@@ -26,8 +26,11 @@ use Rattle.output.specs.Records.{record_line}
 use Rattle.table.specs.declared.place.Place.{Place}
 use Rattle.view.specs.Texts.{shown_text}
 use Rattle.job.specs.declared.faults.JobFault.{JobFault}
-use Rattle.job.specs.declared.faults.JobFault.TheVariants.{SmallOutput, Table, Output, Tray, Page}
+use Rattle.job.specs.declared.faults.JobFault.TheVariants.{SmallOutput, Table, Output, Tray, Page, Draft}
 use Rattle.page.specs.declared.faults.PageFault.TheVariants.{Set as OfSet, Output as OfOutput}
+use Rattle.draft.specs.declared.faults.DraftFault.TheVariants as drafting
+use Rattle.sets.specs.Fault as sets
+use Rattle.sets.specs.declared.faults.SetFault.{SetFault}
 use Rattle.sets.specs.declared.faults.SetFault.TheVariants.{Unfit, NotInside, OtherWidth, Ended}
 use Rattle.tray.specs.declared.faults.TrayFault.TheVariants.{Full as NoPlace}
 use Rattle.job.specs.Faults.{fault_of}
@@ -57,6 +60,7 @@ lined_near (Table inner) near = near
 lined_near (Output inner) near = near
 lined_near (Tray inner) near = near
 lined_near (Page inner) near = near
+lined_near (Draft inner) near = near
 lined_near SmallOutput none = absurd none
 
 -- every refusal has a number of at most three digits
@@ -75,16 +79,23 @@ table_number (NotName line byte) = omega arith
 table_number (CellCount line) = omega arith
 table_number (NotCell line byte) = omega arith
 
+set_number : (e : SetFault) → (sets.fault_of e).number < 2 ^ 8
+set_number Unfit = omega arith
+set_number NotInside = omega arith
+set_number OtherWidth = omega arith
+set_number Ended = omega arith
+
 pub fault_number : (e : JobFault) → (fault_of e).number < 2 ^ 8
 fault_number SmallOutput = omega arith
 fault_number (Table inner) = table_number inner
 fault_number (Output Full) = omega arith
 fault_number (Tray NoPlace) = omega arith
-fault_number (Page (OfSet Unfit)) = omega arith
-fault_number (Page (OfSet NotInside)) = omega arith
-fault_number (Page (OfSet OtherWidth)) = omega arith
-fault_number (Page (OfSet Ended)) = omega arith
+fault_number (Page (OfSet inner)) = set_number inner
 fault_number (Page (OfOutput Full)) = omega arith
+fault_number (Draft (drafting.Set inner)) = set_number inner
+fault_number (Draft (drafting.Tray NoPlace)) = omega arith
+fault_number (Draft drafting.AtEnd) = omega arith
+fault_number (Draft drafting.NotAtEnd) = omega arith
 
 -- the output of a refused job is its fault line and zeros
 pub refused_line : (e : JobFault) (told : Fault) (size : ℕ) (out after : List ℕ) → Lined e → 32 ≤ size → told ≡ fault_of e → out ≡ replicate size 0
@@ -231,6 +242,7 @@ lined_output size (Table inner) lined = refl
 lined_output size (Output inner) lined = refl
 lined_output size (Tray inner) lined = refl
 lined_output size (Page inner) lined = refl
+lined_output size (Draft inner) lined = refl
 lined_output size SmallOutput none = absurd none
 
 -- a refused job leaves its fault line and zeros

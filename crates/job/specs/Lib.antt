@@ -1,3 +1,6 @@
-pub mod Faults
-pub mod Reports
 pub mod Closed
+pub mod Faults
+pub mod Jobs
+pub mod Lists
+pub mod Replies
+pub mod Reports

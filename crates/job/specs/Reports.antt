@@ -10,7 +10,7 @@ use Rattle.table.specs.declared.place.Place.{Place}
 use Rattle.table.specs.Reading.{Contents, read_of}
 use Rattle.view.specs.Texts.{shown_text}
 use Rattle.job.specs.declared.faults.JobFault.{JobFault}
-use Rattle.job.specs.declared.faults.JobFault.TheVariants.{SmallOutput, Table, Output, Tray, Page}
+use Rattle.job.specs.declared.faults.JobFault.TheVariants.{SmallOutput, Table, Output, Tray, Page, Draft}
 use Rattle.job.specs.Faults.{fault_of}
 
 -- a fault line: `fault,`, the letter, the number, the line and the byte, parted by commas, and a line feed
@@ -54,6 +54,7 @@ refused_output size (Table inner) = padded size (fault_line (fault_of (Table inn
 refused_output size (Output inner) = padded size (fault_line (fault_of (Output inner)))
 refused_output size (Tray inner) = padded size (fault_line (fault_of (Tray inner)))
 refused_output size (Page inner) = padded size (fault_line (fault_of (Page inner)))
+refused_output size (Draft inner) = padded size (fault_line (fault_of (Draft inner)))
 
 -- the output after a job
 abbrev pub output_after : (size : ℕ) → Result (List ℕ) JobFault → List ℕ
@@ -72,3 +73,4 @@ Lined (Table inner) = Near (fault_of (Table inner))
 Lined (Output inner) = Near (fault_of (Output inner))
 Lined (Tray inner) = Near (fault_of (Tray inner))
 Lined (Page inner) = Near (fault_of (Page inner))
+Lined (Draft inner) = Near (fault_of (Draft inner))

@@ -1,7 +1,8 @@
 ghost use Rattle.std.specs.Prelude.{◌≡◌};
 ghost use Rattle.job.specs.Faults.{fault_of};
-ghost use Rattle.job.specs.declared.faults.JobFault.TheVariants.{Output, Page, Table, Tray};
+ghost use Rattle.job.specs.declared.faults.JobFault.TheVariants.{Draft, Output, Page, Table, Tray};
 
+use draft::faults::DraftFault;
 use fault::Fault;
 use output::faults::OutputFault;
 use page::faults::PageFault;
@@ -21,6 +22,8 @@ pub enum JobFault {
     Tray(TrayFault),
     // A page does not take a head or a line.
     Page(PageFault),
+    // The tray of rules has not the places for the base.
+    Draft(DraftFault),
 }
 
 impl JobFault {
@@ -39,6 +42,7 @@ impl JobFault {
             JobFault::Output(inner) => inner.fault(),
             JobFault::Tray(inner) => inner.fault(),
             JobFault::Page(inner) => inner.fault(),
+            JobFault::Draft(inner) => inner.fault(),
         }
     }
 }
@@ -72,5 +76,13 @@ impl From<PageFault> for JobFault {
 
     fn from(inner: PageFault) -> JobFault {
         JobFault::Page(inner)
+    }
+}
+
+impl From<DraftFault> for JobFault {
+    ghost from_gives = { λ e r. r ≡ Draft e };
+
+    fn from(inner: DraftFault) -> JobFault {
+        JobFault::Draft(inner)
     }
 }

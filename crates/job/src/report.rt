@@ -5,6 +5,7 @@ ghost use Rattle.output.specs.Puts.{put_answer_of, put_at};
 ghost use Rattle.table.specs.Reading.{read_of, words_after, places_after};
 ghost use Rattle.view.specs.Views.{fit};
 
+use crate::answers::put_fault;
 use crate::faults::JobFault;
 use output::faults::OutputFault;
 use output::record::put_record;
@@ -84,8 +85,6 @@ pub(crate) fn refuse(out: &mut [u8], fault: JobFault) -> JobFault
     ensures output { out.new ≡ padded (length out.old) (fault_line (fault_of fault)) }
 {
     out.fill(0);
-    let told = fault.fault();
-    let word = [b'f', b'a', b'u', b'l', b't', b',', told.letter];
-    let _ = put_record(out, 0, &word, &[told.number as usize, told.line, told.byte]);
+    let _ = put_fault(out, 0, fault.fault());
     fault
 }

@@ -7,6 +7,6 @@ returns c =
     let zeros : c.fill.new.self ≡ replicate (length c.args.out.now) 0 = search rules in
     record {
       answer = refl;
-      output = refused_line c.args.fault c.fault-told.result (length c.args.out.now) c.fill.new.self c.put_record.new.out c.requires.near c.requires.room
-          c.fault-told.ensures zeros c.put_record.ensures.output;
+      output = refused_line c.args.fault c.fault.result (length c.args.out.now) c.fill.new.self c.put_fault.new.out c.requires.near c.requires.room
+          c.fault.ensures zeros c.put_fault.ensures.output;
     }

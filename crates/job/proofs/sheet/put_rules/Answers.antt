@@ -1,0 +1,44 @@
+use Rattle.std.proofs.Common.{length, Err, ap, ◌∙◌, rules}
+use Rattle.std.proofs.lemmas.Result.{err_from_is_err_and}
+use Rattle.operators.specs.TableClosure.{signals_of}
+use Rattle.page.specs.Pages.{rules_head, foot, signal_names}
+use Rattle.job.specs.Lists.{lines_of, shown_rule}
+use Rattle.job.proofs.Bodies.{head_full, head_room, inside_from, long_after, made_from, page_answer, page_output}
+use Rattle.job.proofs.sheet.put_rules.Goals as goal
+
+pub returns-in_err-page : goal.returns-in_err-page
+returns-in_err-page c =
+    let head = rules_head (signals_of c.args.view.now.words.now c.args.view.now.places.now) in
+    let lines = lines_of shown_rule (signal_names c.args.view.now.text.now c.args.view.now.words.now c.args.view.now.places.now) 0 c.args.rules.now in
+    let begun = c.in_err-page.ensures.answer in
+    let p = err_from_is_err_and c.from_residual.result c.from_residual.ensures.1 in
+    record {
+      answer = head_full c.args.at head lines (foot (length c.args.rules.now)) c.args.out.now c.from_residual.result c.in_err-page.field-0.0 (p.1 ∙ ap Err p.2) begun.1 begun.0;
+      output = search rules;
+      inside = search rules;
+    }
+
+pub finish-requires : goal.finish-requires
+finish-requires c =
+    let head = rules_head (signals_of c.args.view.now.words.now c.args.view.now.places.now) in
+    let lines = lines_of shown_rule (signal_names c.args.view.now.text.now c.args.view.now.words.now c.args.view.now.places.now) 0 c.args.rules.now in
+    let begun = c.in_ok-page.ensures.answer in
+    record {
+      begun = begun.2;
+      widths = c.requires.widths;
+      few = c.requires.few;
+      room = head_room c.args.at head lines (foot (length c.args.rules.now)) c.args.out.now c.begin_rules.new.out c.in_ok-page.page.at begun.0 begun.1 c.begin_rules.ensures.output;
+    }
+
+pub returns : goal.returns
+returns c =
+    let head = rules_head (signals_of c.args.view.now.words.now c.args.view.now.places.now) in
+    let lines = lines_of shown_rule (signal_names c.args.view.now.text.now c.args.view.now.words.now c.args.view.now.places.now) 0 c.args.rules.now in
+    let begun = c.in_ok-page.ensures.answer in
+    record {
+      answer = page_answer c.args.at head lines (foot (length c.args.rules.now)) c.args.out.now c.begin_rules.new.out c.in_ok-page.page.at begun.0 begun.1 c.begin_rules.ensures.output
+          c.finish.result c.finish.ensures.answer;
+      output = made_from (λ later. page_output c.args.at head lines (foot (length c.args.rules.now)) c.args.out.now c.begin_rules.new.out c.in_ok-page.page.at begun.0 begun.1 c.begin_rules.ensures.output later)
+          c.finish.result c.finish.new.out c.finish.ensures.output;
+      inside = inside_from c.finish.result _ _ (long_after c.args.at head lines (foot (length c.args.rules.now)) c.args.out.now c.begin_rules.new.out c.in_ok-page.page.at begun.0 begun.1 c.begin_rules.ensures.output) c.finish.ensures.inside;
+    }
