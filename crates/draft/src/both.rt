@@ -1,4 +1,4 @@
-ghost use Rattle.std.specs.Prelude.{min, length, IfOk};
+ghost use Rattle.std.specs.Prelude.{◌≡◌, min, length, IfOk};
 ghost use Rattle.draft.specs.Laws.{DraftLaw};
 ghost use Rattle.operators.specs.TableClosure.{signals_of};
 ghost use Rattle.survey.specs.Tracks.{Law, fresh};
@@ -34,6 +34,8 @@ pub fn run_both<'t, 'r, 'p, 'm>(
         (common (signals_of view.entry.words.now view.entry.places.now) view.entry.words.now) (fresh 0) survey_calls.now ran.listed.items) }
     ensures base { IfOk result (λ ran. DraftLaw view.entry.words.now view.entry.places.now (min (length rules.entry.memory.now) max_entries)
         draft_calls.now ran.drafted.answers.items (entries ran.drafted.draft.rules) ran.drafted.draft.mark) }
+    ensures view { IfOk result (λ ran. ran.drafted.draft.closure.view ≡ view.entry) }
+    ensures size { IfOk result (λ ran. length ran.drafted.draft.rules.memory.now ≡ length rules.entry.memory.now) }
 {
     let listed = run_survey(heap, TableClosure::new(view), survey_calls)?;
     let drafted = run(heap, view, rules, draft_calls)?;

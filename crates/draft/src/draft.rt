@@ -34,6 +34,7 @@ impl<'t, 'r, 'p, 'm> Draft<'t, 'r, 'p, 'm> {
         ensures view { result.closure.view ≡ view.entry }
         ensures empty { entries result.rules ≡ [] }
         ensures memory { result.rules.memory.now ≡ rules.entry.memory.now }
+        ensures link { result.rules.memory.ghost_name ≡ rules.entry.memory.ghost_name }
         ensures mark { result.mark ≡ None }
     {
         let mut rules = rules;

@@ -1,4 +1,4 @@
-ghost use Rattle.std.specs.Prelude.{min, length, IfOk};
+ghost use Rattle.std.specs.Prelude.{◌≡◌, min, length, IfOk};
 ghost use Rattle.draft.specs.Laws.{DraftLaw};
 ghost use Rattle.tray.specs.Tray.{entries, max_entries};
 
@@ -25,6 +25,8 @@ pub fn run<'t, 'r, 'p, 'm>(
 ) -> Result<Drafted<'t, 'r, 'p, 'm>, AllocError>
     ensures law { IfOk result (λ d. DraftLaw view.entry.words.now view.entry.places.now (min (length rules.entry.memory.now) max_entries)
         calls.now d.answers.items (entries d.draft.rules) d.draft.mark) }
+    ensures view { IfOk result (λ d. d.draft.closure.view ≡ view.entry) }
+    ensures size { IfOk result (λ d. length d.draft.rules.memory.now ≡ length rules.entry.memory.now) }
 {
     let mut draft = Draft::begin(view, rules);
     let mut answers = Vec::new(heap);

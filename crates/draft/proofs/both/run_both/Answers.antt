@@ -11,4 +11,6 @@ returns c =
       listing = subst (λ (v : TableView). Law (signals_of v.words.now v.places.now) (common (signals_of v.words.now v.places.now) v.words.now) (fresh 0)
           c.args.survey_calls.now (vec_items c.in_ok-listed.listed)) c.new.ensures.view c.in_ok-listed.ensures.law;
       base = c.in_ok-drafted.ensures.law;
+      view = c.in_ok-drafted.ensures.view;
+      size = c.in_ok-drafted.ensures.size;
     }

@@ -54,4 +54,6 @@ returns c =
           (entries c.loop-call.draft.rules) c.loop-call.draft.mark) c.begin-draft.ensures.view
           (subst (λ xs. DraftLaw start.closure.view.words.now start.closure.view.places.now (min (length xs) max_entries) c.args.calls.now (vec_items c.loop-call.answers)
           (entries c.loop-call.draft.rules) c.loop-call.draft.mark) c.begin-draft.ensures.memory law);
+      view = ap (λ (k : TableClosure). k.view) c.loop-call.invariant.0 ∙ c.begin-draft.ensures.view;
+      size = c.loop-call.invariant.1 ∙ ap length c.begin-draft.ensures.memory;
     }
