@@ -8,6 +8,8 @@ import glob
 import os
 import re
 
+from respell import rewrite
+
 CRATES = "draft job output page query sets table text tray".split()
 
 
@@ -22,12 +24,7 @@ def main():
     for top in ("crates", "unfinished/crates"):
         for path in sorted(glob.glob(top + "/**/*", recursive=True)):
             if os.path.isfile(path) and "/out/" not in path:
-                with open(path, encoding="utf-8") as f:
-                    old = f.read()
-                new = turn(old)
-                if new != old:
-                    with open(path, "w", encoding="utf-8") as f:
-                        f.write(new)
+                rewrite(path, turn)
         for path in glob.glob(top + "/*/src/fault.rt*"):
             os.rename(path, path.replace("/src/fault.rt", "/src/faults.rt"))
 

@@ -19,7 +19,7 @@ use Rattle.sets.specs.declared.set.Set.{Set}
 use Rattle.std.specs.List.{AllByRecursion}
 use Rattle.std.proofs.lemmas.List.{length-map, take_all, take_at}
 use Rattle.std.proofs.lemmas.Bool.{and_from, eq-eqb, true≢false}
-use Rattle.theory.specs.Bases.{base_below, rule_of}
+use Rattle.theory.specs.Bases.{BaseUpto, base_below, rule_of}
 use Rattle.theory.specs.Closures.{Closure, LeastClosed}
 use Rattle.theory.specs.Rules.{Implication, close_s}
 use Rattle.tray.specs.declared.Tray.{Tray}
@@ -48,12 +48,15 @@ module _ (m : ℕ) (c : ℕ → ℕ) (op : Closure m c) (room : ℕ) (small : ro
 
   -- ---- the end
 
+  pub filled_base : (rules : List Rule) (mark : Option Set) → Filling m c room rules mark → at_full m mark ≡ true → BaseUpto m c (2 ^ m) (implications rules)
+  filled_base rules mark f full = (subst (λ n. RulesBefore m c n rules) (full_sought m mark full) f.agrees.before).base
+
   pub filled_all :
       (rules : List Rule) (mark : Option Set) → Filling m c room rules mark → at_full m mark ≡ true
       → (implications rules ≡ take room (base_below m c (2 ^ m))) × (length (base_below m c (2 ^ m)) ≤ room)
   filled_all rules mark f full =
       let is : implications rules ≡ all =
-      base_base_below m c op (omega arith) (subst (λ n. RulesBefore m c n rules) (full_sought m mark full) f.agrees.before).base in
+      base_base_below m c op (omega arith) (filled_base rules mark f full) in
       let few : length all ≤ room = omega (arith, ap length is, length-map rules implication, f.agrees.few) in
       (is ∙ sym (take_all room all few), few)
 

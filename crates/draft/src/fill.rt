@@ -1,10 +1,10 @@
-ghost use Rattle.std.specs.Prelude.{◌≡◌, ◌^◌, ◌<◌, ◌≤◌, min, length, take, drop, MatchResult};
+ghost use Rattle.std.specs.Prelude.{◌≡◌, ◌^◌, ◌<◌, ◌≤◌, min, length, take, drop, IfOk, MatchResult};
 ghost use Rattle.draft.specs.Faults.{fault_of};
 ghost use Rattle.draft.specs.Fills.{Filled};
 ghost use Rattle.draft.specs.Laws.{implications};
 ghost use Rattle.fault.specs.Layers.{in_trays};
 ghost use Rattle.std.specs.List.{AllByRecursion};
-ghost use Rattle.theory.specs.Bases.{base_below};
+ghost use Rattle.theory.specs.Bases.{BaseUpto, base_below};
 ghost use Rattle.tray.specs.Tray.{capacity, entries, max_entries};
 
 use crate::advance::advance_over;
@@ -17,6 +17,7 @@ use tray::Tray;
 // Empties the tray, and puts every rule of the operator's base into it, in the lectic order of the premises; refused where it is full, with the rules that fitted kept.
 pub fn fill<O: Operator>(operator: &O, rules: &mut Tray<Rule>) -> Result<(), DraftFault>
     ensures rules { implications (entries rules.new) ≡ take (capacity rules.old) (base_below (O.Operator.span operator.now) (O.Operator.means operator.now) (2 ^ O.Operator.span operator.now)) }
+    ensures base { IfOk result (λ _. BaseUpto (O.Operator.span operator.now) (O.Operator.means operator.now) (2 ^ O.Operator.span operator.now) (implications (entries rules.new))) }
     ensures widths { AllByRecursion (λ r. r.premise.width ≡ O.Operator.span operator.now) (entries rules.new) }
     ensures answer { MatchResult result
         (λ _. length (base_below (O.Operator.span operator.now) (O.Operator.means operator.now) (2 ^ O.Operator.span operator.now)) ≤ capacity rules.old)

@@ -1,4 +1,4 @@
-use Rattle.std.proofs.Common.{◌≡◌, ◌^◌, ◌<◌, ◌≤◌, min, true, false, length, take, drop, Ok, Err, sym, refl, ap, ◌∙◌, subst, arith, MatchResult}
+use Rattle.std.proofs.Common.{◌≡◌, ◌^◌, ◌<◌, ◌≤◌, min, true, false, length, take, drop, Ok, Err, sym, refl, ap, ◌∙◌, subst, arith, IfOk, MatchResult}
 use Rattle.draft.specs.Advances.{Advances, Stops, at_full}
 use Rattle.draft.specs.Faults.{fault_of}
 use Rattle.draft.specs.Laws.{implications}
@@ -6,9 +6,9 @@ use Rattle.fault.specs.Layers.{in_trays}
 use Rattle.std.specs.List.{AllByRecursion}
 use Rattle.std.proofs.lemmas.Result.{err_from_is_err_and}
 use Rattle.survey.proofs.Filling.{drop_later}
-use Rattle.theory.specs.Bases.{base_below}
+use Rattle.theory.specs.Bases.{BaseUpto, base_below}
 use Rattle.tray.specs.Tray.{capacity, entries, max_entries}
-use Rattle.draft.proofs.Filling.{filling_none, filling_more, filled_all, filled_some, filled_refused, longer_after, rises}
+use Rattle.draft.proofs.Filling.{filling_none, filling_more, filled_base, filled_all, filled_some, filled_refused, longer_after, rises}
 use Rattle.draft.proofs.fill.fill.Goals as goal
 
 pub loop-mark-init : goal.loop-mark-init
@@ -59,6 +59,7 @@ returns g c =
     let done = filled_all m means (g.O.Operator.closes c.args.operator.now) (capacity c.clear.new.self) (omega arith) (entries c.loop-mark.rules) c.loop-mark.mark c.loop-mark.invariant.0 full in
     record {
       rules = done.0 ∙ ap (λ n. take n (base_below m means (2 ^ m))) room;
+      base = filled_base m means (g.O.Operator.closes c.args.operator.now) (capacity c.clear.new.self) (omega arith) (entries c.loop-mark.rules) c.loop-mark.mark c.loop-mark.invariant.0 full;
       widths = c.loop-mark.invariant.0.agrees.before.widths;
       answer = subst (λ n. length (base_below m means (2 ^ m)) ≤ n) room done.1;
       size = c.loop-mark.invariant.1 ∙ ap length c.clear.ensures.memory;
@@ -83,6 +84,7 @@ returns-in_err-advance_over g c =
     let kept : entries c.advance_over.new.rules ≡ entries c.loop-mark.rules = told.1 in
     record {
       rules = ap implications kept ∙ done.0 ∙ ap (λ n. take n (base_below m means (2 ^ m))) room;
+      base = subst (λ r. IfOk r (λ _. BaseUpto m means (2 ^ m) (implications (entries c.advance_over.new.rules)))) (sym same) tt;
       widths = subst (λ rs. AllByRecursion (λ r. r.premise.width ≡ m) rs) (sym kept) c.loop-mark.invariant.0.agrees.before.widths;
       answer = subst (λ r. MatchResult r (λ _. length (base_below m means (2 ^ m)) ≤ capacity c.args.rules.now)
           (λ fault. (capacity c.args.rules.now < length (base_below m means (2 ^ m))) × (fault_of fault ≡ in_trays 21))) (sym same)
