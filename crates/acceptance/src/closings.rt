@@ -12,18 +12,19 @@ const TEXT: &[u8] = b"B\n\n2\n2\n\na\nb\np\nq\n..\nXX\n";
 
 const PAGE: &[u8] = b"closed,G,2\nset,0,0\nset,1,2,p,q\nend,2\n";
 
-const NONE: Place = Place {
-    start: 0,
-    length: 0,
-};
-
 #[test]
 fn listed(rt: HostRuntime) -> Result<(), Fail> {
     let kept = Set::new(1, 1)?;
     let mut sets = [kept; 3];
     let mut out = [7; 40];
     assert_eq!(rt;
-        list_closed(TEXT, &mut [0; 2], &mut [NONE; 4], &mut sets, &mut out),
+        list_closed(
+            TEXT,
+            &mut [0; 2],
+            &mut [Place::default(); 4],
+            &mut sets,
+            &mut out
+        ),
         Ok(37)
     );
     assert_eq!(rt; &out[0..37], PAGE);
@@ -36,7 +37,13 @@ fn listed(rt: HostRuntime) -> Result<(), Fail> {
 fn too_few_places(rt: HostRuntime) -> Result<(), Fail> {
     let mut sets = [Set::new(1, 1)?; 1];
     let mut out = [7; 40];
-    let answer = list_closed(TEXT, &mut [0; 2], &mut [NONE; 4], &mut sets, &mut out);
+    let answer = list_closed(
+        TEXT,
+        &mut [0; 2],
+        &mut [Place::default(); 4],
+        &mut sets,
+        &mut out,
+    );
     assert_eq!(rt; answer, Err(JobFault::Tray(TrayFault::Full)));
     assert_eq!(rt; &out[0..15], b"fault,C,21,0,0\n".as_slice());
     assert_eq!(rt; &out[15..40], [0u8; 25].as_slice());
@@ -49,11 +56,23 @@ fn too_few_bytes(rt: HostRuntime) -> Result<(), Fail> {
     let mut sets = [Set::new(1, 1)?; 2];
     let mut exact = [7; 40];
     assert_eq!(rt;
-        list_closed(TEXT, &mut [0; 2], &mut [NONE; 4], &mut sets, &mut exact),
+        list_closed(
+            TEXT,
+            &mut [0; 2],
+            &mut [Place::default(); 4],
+            &mut sets,
+            &mut exact
+        ),
         Ok(37)
     );
     let mut short = [7; 39];
-    let answer = list_closed(TEXT, &mut [0; 2], &mut [NONE; 4], &mut sets, &mut short);
+    let answer = list_closed(
+        TEXT,
+        &mut [0; 2],
+        &mut [Place::default(); 4],
+        &mut sets,
+        &mut short,
+    );
     assert_eq!(rt;
         answer,
         Err(JobFault::Page(PageFault::Output(OutputFault::Full)))
@@ -71,7 +90,7 @@ fn refused_text(rt: HostRuntime) -> Result<(), Fail> {
     let answer = list_closed(
         b"B\n\n2\n2\n\na\nb\np\nq\n.\nXX\n",
         &mut [0; 2],
-        &mut [NONE; 4],
+        &mut [Place::default(); 4],
         &mut sets,
         &mut out,
     );

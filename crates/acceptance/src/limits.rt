@@ -15,13 +15,13 @@ fn add_line(text: &mut Vec<u8>, count: usize, byte: u8) -> Result<(), AllocError
 
 // Makes the text of a table of equal rows, with names of equal length.
 fn large(
-    heap: Global,
+    alloc: Global,
     head: &[u8],
     rows: usize,
     signals: usize,
     name: usize,
 ) -> Result<Vec<u8>, AllocError> {
-    let mut text = Vec::from_slice(heap, head)?;
+    let mut text = Vec::from_slice(alloc, head)?;
     for _ in 0..rows {
         add_line(&mut text, name, b'r')?;
     }
@@ -46,34 +46,16 @@ fn at_the_limits(rt: HostRuntime) -> Result<(), Fail> {
         })
     );
     let more_rows = large(rt.alloc(), b"B\n\n513\n60\n\n", 513, 60, 40)?;
-    assert_eq!(rt;
-        outcome_of(&more_rows),
-        Err(Fault {
-            letter: b'T',
-            number: 36,
-            line: 3,
-            byte: 1,
-        })
-    );
+    assert_eq!(rt; outcome_of(&more_rows), Err(Fault::in_text(b'T', 36, 3, 1)));
     let more_signals = large(rt.alloc(), b"B\n\n512\n61\n\n", 512, 61, 40)?;
     assert_eq!(rt;
         outcome_of(&more_signals),
-        Err(Fault {
-            letter: b'T',
-            number: 36,
-            line: 4,
-            byte: 1,
-        })
+        Err(Fault::in_text(b'T', 36, 4, 1))
     );
     let longer_names = large(rt.alloc(), b"B\n\n512\n60\n\n", 512, 60, 41)?;
     assert_eq!(rt;
         outcome_of(&longer_names),
-        Err(Fault {
-            letter: b'T',
-            number: 38,
-            line: 6,
-            byte: 1,
-        })
+        Err(Fault::in_text(b'T', 38, 6, 1))
     );
     Ok(())
 }
@@ -93,15 +75,7 @@ fn long_texts(rt: HostRuntime) -> Result<(), Fail> {
         })
     );
     text.push(b'z')?;
-    assert_eq!(rt;
-        outcome_of(&text),
-        Err(Fault {
-            letter: b'T',
-            number: 31,
-            line: 1,
-            byte: 1,
-        })
-    );
+    assert_eq!(rt; outcome_of(&text), Err(Fault::in_text(b'T', 31, 1, 1)));
     Ok(())
 }
 
@@ -125,12 +99,7 @@ fn small_tables(rt: HostRuntime) {
     );
     assert_eq!(rt;
         outcome_of(b"B\n\n2\n0\n\na\nb\n\n"),
-        Err(Fault {
-            letter: b'F',
-            number: 32,
-            line: 9,
-            byte: 1,
-        })
+        Err(Fault::in_text(b'F', 32, 9, 1))
     );
     assert_eq!(rt;
         outcome_of(b"B\n\n0\n2\n\np\nq\n"),
@@ -161,12 +130,7 @@ fn cut_short(rt: HostRuntime) {
         }
         assert_eq!(rt;
             outcome_of(&text[0..end]),
-            Err(Fault {
-                letter: b'F',
-                number: 32,
-                line,
-                byte: 1,
-            })
+            Err(Fault::in_text(b'F', 32, line, 1))
         );
     }
     assert_eq!(rt;

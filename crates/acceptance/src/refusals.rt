@@ -1,5 +1,6 @@
 use crate::outcome::outcome_of;
 use fault::Fault;
+use fault::refusal::Refusal;
 use std::process::Abort;
 use table::faults::TableFault;
 use table::place::Place;
@@ -9,12 +10,7 @@ use table::read::{Reading, read};
 fn refused(rt: &impl Abort, text: &[u8], letter: u8, number: u8, line: usize, byte: usize) {
     assert_eq!(rt;
         outcome_of(text),
-        Err(Fault {
-            letter,
-            number,
-            line,
-            byte,
-        })
+        Err(Fault::in_text(letter, number, line, byte))
     );
 }
 
@@ -70,15 +66,7 @@ fn rooms(rt: HostRuntime) {
         read(b"B\n\n2\n2\nx", &mut words, &mut places),
         Err(TableFault::NoRoom)
     );
-    assert_eq!(rt;
-        TableFault::NoRoom.fault(),
-        Fault {
-            letter: b'T',
-            number: 37,
-            line: 4,
-            byte: 1,
-        }
-    );
+    assert_eq!(rt; TableFault::NoRoom.fault(), Fault::in_text(b'T', 37, 4, 1));
     assert_eq!(rt;
         read(b"B\n\n2\n1\n\na\nb\np\nX\n,\n", &mut words, &mut places),
         Err(TableFault::NotCell { line: 10, byte: 1 })

@@ -1,4 +1,5 @@
 use fault::Fault;
+use fault::refusal::Refusal;
 use job::faults::JobFault;
 use job::report::report;
 use output::faults::OutputFault;
@@ -71,15 +72,7 @@ fn small_output(rt: HostRuntime) {
     );
     assert_eq!(rt; out, [0; 31]);
     assert_eq!(rt; words, [9, 9]);
-    assert_eq!(rt;
-        JobFault::SmallOutput.fault(),
-        Fault {
-            letter: b'J',
-            number: 71,
-            line: 0,
-            byte: 0,
-        }
-    );
+    assert_eq!(rt; JobFault::SmallOutput.fault(), Fault::textless(b'J', 71));
 }
 
 #[test]

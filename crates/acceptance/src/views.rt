@@ -1,4 +1,5 @@
 use output::faults::OutputFault;
+use output::output::Output;
 use std::process::Abort;
 use table::place::Place;
 use view::table_view::TableView;
@@ -106,10 +107,13 @@ fn unfit(rt: HostRuntime) {
 fn written(rt: HostRuntime) {
     let view = TableView::new(TEXT, &[1], &[FIRST, SECOND]);
     let mut out = [7; 20];
-    assert_eq!(rt; write_table(&view, &mut out), Ok(16));
+    let mut lent = Output::new(&mut out, 0);
+    assert_eq!(rt; write_table(&view, &mut lent), Ok(()));
+    assert_eq!(rt; lent.at(), 16);
     assert_eq!(rt; &out[0..16], b"B\n\n1\n1\n\nab\ncd\nX\n".as_slice());
     assert_eq!(rt; &out[16..20], [7u8, 7, 7, 7].as_slice());
     let mut short = [7; 15];
-    assert_eq!(rt; write_table(&view, &mut short), Err(OutputFault::Full));
+    let answer = write_table(&view, &mut Output::new(&mut short, 0));
+    assert_eq!(rt; answer, Err(OutputFault::Full));
     assert_eq!(rt; short, [7; 15]);
 }

@@ -2,7 +2,7 @@
 use Rattle.std.proofs.Common.{◌≡◌, ℕ, suc, ◌+◌, ◌-◌, ◌^◌, ◌<◌, ◌≤◌, min, true, false, List, [], ◌∷◌, ◌++◌, length, take, drop, Some, None, Ok, Option, sym, refl, ap, ◌∙◌, subst, append_assoc, arith, length-append, length-take}
 use Rattle.draft.specs.declared.call.Advance.{Advance}
 use Rattle.draft.specs.declared.call.Advance.TheVariants as found
-use Rattle.draft.specs.declared.call.DraftAnswer.TheVariants.{Advanced}
+use Rattle.draft.specs.declared.call.DraftGranted.TheVariants.{Advanced}
 use Rattle.draft.specs.declared.call.DraftCall.TheVariants as call
 use Rattle.draft.specs.declared.faults.DraftFault.{DraftFault}
 use Rattle.draft.specs.declared.faults.DraftFault.TheVariants as refusal
@@ -23,7 +23,7 @@ use Rattle.theory.specs.Bases.{BaseUpto, base_below, rule_of}
 use Rattle.theory.specs.Closures.{Closure, LeastClosed}
 use Rattle.theory.specs.Rules.{Implication, close_s}
 use Rattle.tray.specs.declared.Tray.{Tray}
-use Rattle.tray.specs.Tray.{capacity, entries, max_entries}
+use Rattle.tray.specs.Tray.{Kept, capacity, entries, max_entries}
 use Rattle.theory.proofs.Ganter.{base_base_below, base_below_front, ganter_more}
 
 -- what the tray holds: the rules up to the mark
@@ -40,7 +40,7 @@ module _ (m : ℕ) (c : ℕ → ℕ) (op : Closure m c) (room : ℕ) (small : ro
       (rules after : List Rule) (mark later : Option Set) (found : Advance) → Filling m c room rules mark → Advances m c room rules mark (Ok found) after later
       → Filling m c room after later
   filling_more rules after mark later found f a =
-      let step = moves m c op room small f.marked call.Advance rules mark (Advanced found) after later a f.agrees in record { marked = step.later; agrees = step.agrees }
+      let step = moves m c op room small f.marked call.Advance rules mark (Ok (Advanced found)) after later a f.agrees in record { marked = step.later; agrees = step.agrees }
 
   sought_few : (rules : List Rule) (mark : Option Set) → Filling m c room rules mark → sought_from mark ≤ 2 ^ m
   sought_few rules None f = omega arith
@@ -133,15 +133,14 @@ module _ (m : ℕ) (c : ℕ → ℕ) (op : Closure m c) (room : ℕ) (small : ro
 
 -- what a tray over memory holds, told of the memory
 pub filled_memory :
-    (m : ℕ) (c : ℕ → ℕ) (t : Tray Rule) (before after : List Rule) → after ≡ t.memory.now → length t.memory.now ≡ length before
-    → drop (length (entries t)) t.memory.now ≡ drop (length (entries t)) before
+    (m : ℕ) (c : ℕ → ℕ) (new t : Tray Rule) (before after : List Rule) → after ≡ t.memory.now → new.memory.now ≡ before → Kept new t
     → implications (entries t) ≡ take (min (length before) max_entries) (base_below m c (2 ^ m)) → AllByRecursion (λ r. r.premise.width ≡ m) (entries t) → Filled m c before after
-filled_memory m c t before after same size past rules widths =
+filled_memory m c new t before after same lent kept rules widths =
     let place : length (entries t) ≡ min t.count (capacity t) = simp length-take (omega arith) in
     record {
       kept = entries t;
       front = ap (take (length (entries t))) same ∙ ap (λ n. take n t.memory.now) place;
-      rest = ap (drop (length (entries t))) same ∙ past;
+      rest = ap (drop (length (entries t))) same ∙ kept.past ∙ ap (drop (length (entries t))) lent;
       rules = rules;
       widths = widths;
     }

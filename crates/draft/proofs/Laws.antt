@@ -1,14 +1,13 @@
 -- A draft's rules and mark agree with the sets that its advances took, and the law of a list of calls grows by one call at the end.
-use Rattle.std.proofs.Common.{◌≡◌, ℕ, suc, ◌+◌, ◌-◌, ◌^◌, ◌<◌, ◌≤◌, ◌≢◌, List, [], ◌∷◌, ◌++◌, length, take, Some, None, Option, sym, refl, ap, ◌∙◌, subst, inl, ⊎_elim, arith, length-append, take_all, pow_pos}
+use Rattle.std.proofs.Common.{◌≡◌, ℕ, suc, ◌+◌, ◌-◌, ◌^◌, ◌<◌, ◌≤◌, ◌≢◌, List, [], ◌∷◌, ◌++◌, length, take, Some, None, Ok, Err, Option, sym, refl, ap, ◌∙◌, subst, inl, ⊎_elim, arith, length-append, take_all, pow_pos}
 use mathlib.Core.List.{map-append}
 use Rattle.draft.specs.declared.call.Advance.TheVariants as found
-use Rattle.draft.specs.declared.call.DraftAnswer.{DraftAnswer}
-use Rattle.draft.specs.declared.call.DraftAnswer.TheVariants.{Advanced, Ready, Refused}
+use Rattle.draft.specs.declared.call.DraftGranted.TheVariants.{Advanced, Ready}
 use Rattle.draft.specs.declared.call.DraftCall.{DraftCall}
 use Rattle.draft.specs.declared.call.DraftCall.TheVariants as call
 use Rattle.draft.specs.declared.faults.DraftFault.TheVariants as refusal
 use Rattle.draft.specs.Advances.{AtFull, OfWidth, Taken, sought_from}
-use Rattle.draft.specs.Calls.{Does}
+use Rattle.draft.specs.Calls.{Does, DraftAnswer}
 use Rattle.draft.specs.Laws.{ClosedOrPseudo, DraftLaw, FullMarked, Gapless, LeastEither, NoPlace, Passage, RulesBefore, Step, implications}
 use Rattle.draft.proofs.Bases.{base_law, heeded_all}
 use Rattle.operators.specs.Heeded.{implication, max_rules}
@@ -99,7 +98,7 @@ module _ (m : ℕ) (c : ℕ → ℕ) (op : Closure m c) (room : ℕ) (small : ro
 
     closed_moves :
         (after : List Rule) (later : Option Set) → Closed c set.word → after ≡ rules → later ≡ Some set
-        → Moves m c room marked call.Advance (Advanced found.Closed) after later
+        → Moves m c room marked call.Advance (Ok (Advanced found.Closed)) after later
     closed_moves after later closed same moved =
         record {
           later = marked ++ set.word ∷ [];
@@ -111,7 +110,7 @@ module _ (m : ℕ) (c : ℕ → ℕ) (op : Closure m c) (room : ℕ) (small : ro
     rule_moves :
         (after : List Rule) (later : Option Set) (rule : Rule) → c set.word ≢ set.word → length rules < room → rule.premise ≡ set
         → rule.conclusion.word ≡ c set.word → after ≡ rules ++ rule ∷ [] → later ≡ Some set
-        → Moves m c room marked call.Advance (Advanced found.Rule) after later
+        → Moves m c room marked call.Advance (Ok (Advanced found.Rule)) after later
     rule_moves after later rule unclosed place premise conclusion put moved =
         record {
           later = marked ++ set.word ∷ [];
@@ -160,24 +159,24 @@ module _ (m : ℕ) (c : ℕ → ℕ) (op : Closure m c) (room : ℕ) (small : ro
   pub moves :
       (marked : List ℕ) (asked : DraftCall) (rules : List Rule) (mark : Option Set) (answer : DraftAnswer) (after : List Rule) (later : Option Set)
       → Does m c room asked rules mark answer after later → Agrees m c room marked rules mark → Moves m c room marked asked answer after later
-  moves marked call.Advance rules mark (Advanced found.Closed) after later d a =
+  moves marked call.Advance rules mark (Ok (Advanced found.Closed)) after later d a =
       closed_moves marked rules mark d.set a d.taken after later d.closed d.rules d.moved
-  moves marked call.Advance rules mark (Advanced found.Rule) after later d a =
+  moves marked call.Advance rules mark (Ok (Advanced found.Rule)) after later d a =
       rule_moves marked rules mark d.set a d.taken after later d.rule d.not_closed d.place d.premise d.conclusion d.rules d.moved
-  moves marked call.Advance rules mark Ready after later d a = absurd d
-  moves marked call.Advance rules mark (Refused (refusal.Set inner)) after later d a = absurd (d.0.1 a.of_width)
-  moves marked call.Advance rules mark (Refused (refusal.Tray inner)) after later d a =
+  moves marked call.Advance rules mark (Ok Ready) after later d a = absurd d
+  moves marked call.Advance rules mark (Err (refusal.Set inner)) after later d a = absurd (d.0.1 a.of_width)
+  moves marked call.Advance rules mark (Err (refusal.Tray inner)) after later d a =
       let full = d.0.1 in
-      stays marked call.Advance (Refused (refusal.Tray inner)) rules after mark later
+      stays marked call.Advance (Err (refusal.Tray inner)) rules after mark later
       ((d.0.0, no_place marked rules mark full.set a full.taken full.not_closed full.full), refl) a d.1 d.2
-  moves marked call.Advance rules mark (Refused refusal.AtEnd) after later d a =
-      stays marked call.Advance (Refused refusal.AtEnd) rules after mark later (marked_full marked rules mark a d.0, refl) a d.1 d.2
-  moves marked call.Advance rules mark (Refused refusal.NotAtEnd) after later d a = absurd d.0
-  moves marked call.TryClose rules mark (Advanced found) after later d a = absurd d
-  moves marked call.TryClose rules mark Ready after later d a =
-      stays marked call.TryClose Ready rules after mark later (marked_full marked rules mark a d.0, refl) a d.1 d.2
-  moves marked call.TryClose rules mark (Refused fault) after later d a =
-      stays marked call.TryClose (Refused fault) rules after mark later (λ p. d.0 (full_marked marked rules mark a p), d.1, refl) a d.2 d.3
+  moves marked call.Advance rules mark (Err refusal.AtEnd) after later d a =
+      stays marked call.Advance (Err refusal.AtEnd) rules after mark later (marked_full marked rules mark a d.0, refl) a d.1 d.2
+  moves marked call.Advance rules mark (Err refusal.NotAtEnd) after later d a = absurd d.0
+  moves marked call.TryClose rules mark (Ok (Advanced found)) after later d a = absurd d
+  moves marked call.TryClose rules mark (Ok Ready) after later d a =
+      stays marked call.TryClose (Ok Ready) rules after mark later (marked_full marked rules mark a d.0, refl) a d.1 d.2
+  moves marked call.TryClose rules mark (Err fault) after later d a =
+      stays marked call.TryClose (Err fault) rules after mark later (λ p. d.0 (full_marked marked rules mark a p), d.1, refl) a d.2 d.3
 
   -- ---- lists of calls
 

@@ -4,16 +4,16 @@
 --   room      the number of rules that the tray has place for
 --   marked    the words of the sets that the granted advances took, in the order of the answers
 --   up to the mark   the mark and all sets before it, or none without a mark
-use Rattle.std.specs.Prelude.{◌≡◌, ℕ, ◌-◌, ◌^◌, ◌<◌, ◌≤◌, cond, ◌⊎◌, ◌↔◌, List, [], ◌∷◌, ◌++◌, map, length, Option}
+use Rattle.std.specs.Prelude.{◌≡◌, ℕ, ◌-◌, ◌^◌, ◌<◌, ◌≤◌, cond, ◌⊎◌, ◌↔◌, List, [], ◌∷◌, ◌++◌, map, length, Ok, Err, Option}
 use mathlib.Core.List.{Memᴰ}
 use Rattle.draft.specs.declared.call.Advance.{Advance}
 use Rattle.draft.specs.declared.call.Advance.TheVariants as found
-use Rattle.draft.specs.declared.call.DraftAnswer.{DraftAnswer}
-use Rattle.draft.specs.declared.call.DraftAnswer.TheVariants.{Advanced, Ready, Refused}
+use Rattle.draft.specs.declared.call.DraftGranted.TheVariants.{Advanced, Ready}
 use Rattle.draft.specs.declared.call.DraftCall.{DraftCall}
 use Rattle.draft.specs.declared.call.DraftCall.TheVariants as call
 use Rattle.draft.specs.declared.faults.DraftFault.{DraftFault}
 use Rattle.draft.specs.declared.faults.DraftFault.TheVariants as refusal
+use Rattle.draft.specs.Calls.{DraftAnswer}
 use Rattle.draft.specs.Advances.{OfWidth, at_full, sought_from}
 use Rattle.draft.specs.Faults.{fault_of}
 use Rattle.fault.specs.Layers.{in_drafts, in_trays}
@@ -74,13 +74,13 @@ NoAdvance m c room marked refusal.NotAtEnd = ⊥
 
 -- the answer to a call is right, and the marked sets after it are these
 abbrev pub Step : (m : ℕ) (c : ℕ → ℕ) (room : ℕ) (marked : List ℕ) → DraftCall → DraftAnswer → (later : List ℕ) → Type 0
-Step m c room marked call.Advance (Advanced found) later =
+Step m c room marked call.Advance (Ok (Advanced found)) later =
     (x : ℕ) × LeastEither m c (past 0 marked) x × Says m c found x × (later ≡ marked ++ x ∷ [])
-Step m c room marked call.Advance Ready later = ⊥
-Step m c room marked call.Advance (Refused fault) later = NoAdvance m c room marked fault × (later ≡ marked)
-Step m c room marked call.TryClose (Advanced found) later = ⊥
-Step m c room marked call.TryClose Ready later = FullMarked m marked × (later ≡ marked)
-Step m c room marked call.TryClose (Refused fault) later =
+Step m c room marked call.Advance (Ok Ready) later = ⊥
+Step m c room marked call.Advance (Err fault) later = NoAdvance m c room marked fault × (later ≡ marked)
+Step m c room marked call.TryClose (Ok (Advanced found)) later = ⊥
+Step m c room marked call.TryClose (Ok Ready) later = FullMarked m marked × (later ≡ marked)
+Step m c room marked call.TryClose (Err fault) later =
     (FullMarked m marked → ⊥) × (fault_of fault ≡ in_drafts 23) × (later ≡ marked)
 
 -- each call has one answer, which is right, and the marked sets are gapless before the first call and after each; at the end they are `later`

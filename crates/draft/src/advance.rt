@@ -1,8 +1,8 @@
-ghost use Rattle.std.specs.Prelude.{◌≡◌, ◌≤◌, length, drop};
+ghost use Rattle.std.specs.Prelude.{◌≡◌, ◌≤◌};
 ghost use Rattle.draft.specs.Advances.{Advances, Next};
 ghost use Rattle.sets.specs.Set.{Inside};
 ghost use Rattle.theory.specs.Words.{max_signals};
-ghost use Rattle.tray.specs.Tray.{capacity, entries};
+ghost use Rattle.tray.specs.Tray.{Kept, capacity, entries};
 
 use crate::call::Advance;
 use crate::faults::DraftFault;
@@ -22,17 +22,16 @@ pub fn advance_over<O: Operator>(
 ) -> Result<Advance, DraftFault>
     ensures advances { Advances (O.Operator.span operator.now) (O.Operator.means operator.now) (capacity rules.old)
         (entries rules.old) mark.old result (entries rules.new) mark.new }
-    ensures size { length rules.new.memory.now ≡ length rules.old.memory.now }
-    ensures past { drop (length (entries rules.new)) rules.new.memory.now ≡ drop (length (entries rules.new)) rules.old.memory.now }
-    ensures link { rules.new.memory.ghost_name ≡ rules.old.memory.ghost_name }
+    ensures kept { Kept rules.old rules.new }
 {
     let set = next_set(operator.width(), rules.entries(), *mark)?;
     let closed = operator.closure(set);
-    let mut found = Advance::Closed;
-    if closed.word() != set.word() {
+    let found = if closed.word() == set.word() {
+        Advance::Closed
+    } else {
         rules.put(rule_between(set, closed))?;
-        found = Advance::Rule;
-    }
+        Advance::Rule
+    };
     *mark = Some(set);
     Ok(found)
 }
@@ -50,10 +49,7 @@ fn next_set(width: usize, rules: &[Rule], mark: Option<Set>) -> Result<Set, Draf
     if last.width() != width {
         return Err(DraftFault::Set(SetFault::OtherWidth));
     }
-    match least_after(&under, last) {
-        Some(set) => Ok(set),
-        None => Err(DraftFault::AtEnd),
-    }
+    least_after(&under, last).ok_or(DraftFault::AtEnd)
 }
 
 // The rule from a set to its closure.

@@ -1,5 +1,5 @@
-ghost use Rattle.operators.specs.TableClosure.{signals_of};
 ghost use Rattle.std.specs.Prelude.{◌≡◌, length};
+ghost use Rattle.view.specs.Shown.{signal_count};
 
 use sets::rule::Rule;
 use view::table_view::TableView;
@@ -43,7 +43,7 @@ impl<'t, 'r, 'p, 'm> Base<'t, 'r, 'p, 'm> {
 
     // The number of signals of the table.
     pub fn width(&self) -> usize
-        ensures value { result ≡ signals_of self.now.view.words.now self.now.view.places.now }
+        ensures value { result ≡ signal_count self.now.view }
     {
         self.view.signals()
     }

@@ -18,13 +18,14 @@ pub enum Advance {
     Rule,
 }
 
-// What a draft answers.
+// What a draft grants.
 #[derive(Clone, Copy, PartialEq, Eq, Debug)]
-pub enum DraftAnswer {
+pub enum DraftGranted {
     // An advance took the next set.
     Advanced(Advance),
     // The draft can be closed.
     Ready,
-    // The call is refused, and all is as before.
-    Refused(DraftFault),
 }
+
+// What a draft answers: what it grants, or why the call is refused and all is as before.
+pub type DraftAnswer = Result<DraftGranted, DraftFault>;

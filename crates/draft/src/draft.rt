@@ -3,14 +3,14 @@ ghost use Rattle.draft.specs.Calls.{Does};
 ghost use Rattle.draft.specs.Faults.{fault_of};
 ghost use Rattle.draft.specs.Laws.{closed_to};
 ghost use Rattle.fault.specs.Layers.{in_drafts};
-ghost use Rattle.operators.specs.TableClosure.{signals_of};
-ghost use Rattle.std.specs.Prelude.{◌≡◌, [], length, drop, None, MatchResult};
-ghost use Rattle.theory.specs.Rows.{common};
-ghost use Rattle.tray.specs.Tray.{capacity, entries};
+ghost use Rattle.operators.specs.TableClosure.{closure_in};
+ghost use Rattle.std.specs.Prelude.{◌≡◌, [], None, MatchResult};
+ghost use Rattle.tray.specs.Tray.{Kept, capacity, entries};
+ghost use Rattle.view.specs.Shown.{signal_count};
 
 use crate::advance::advance_over;
 use crate::base::Base;
-use crate::call::{Advance, DraftAnswer, DraftCall};
+use crate::call::{Advance, DraftAnswer, DraftCall, DraftGranted};
 use crate::faults::DraftFault;
 use crate::full::is_at_full;
 use operators::operator::Operator;
@@ -49,13 +49,10 @@ impl<'t, 'r, 'p, 'm> Draft<'t, 'r, 'p, 'm> {
     // Takes the next set, and puts its rule where it is not closed.
     pub fn advance(&mut self) -> Result<Advance, DraftFault>
         ensures advances { Advances
-            (signals_of self.old.closure.view.words.now self.old.closure.view.places.now)
-            (common (signals_of self.old.closure.view.words.now self.old.closure.view.places.now) self.old.closure.view.words.now)
+            (signal_count self.old.closure.view) (closure_in self.old.closure.view)
             (capacity self.old.rules) (entries self.old.rules) self.old.mark result (entries self.new.rules) self.new.mark }
         ensures closure { self.new.closure ≡ self.old.closure }
-        ensures size { length self.new.rules.memory.now ≡ length self.old.rules.memory.now }
-        ensures past { drop (length (entries self.new.rules)) self.new.rules.memory.now ≡ drop (length (entries self.new.rules)) self.old.rules.memory.now }
-        ensures link { self.new.rules.memory.ghost_name ≡ self.old.rules.memory.ghost_name }
+        ensures kept { Kept self.old.rules self.new.rules }
     {
         advance_over(&self.closure, &mut self.rules, &mut self.mark)
     }
@@ -63,8 +60,8 @@ impl<'t, 'r, 'p, 'm> Draft<'t, 'r, 'p, 'm> {
     // Whether the draft can be closed to the base of its table: refused while the mark is not the full set.
     pub fn try_close(&self) -> Result<(), DraftFault>
         ensures answer { MatchResult result
-            (λ _. AtFull (signals_of self.now.closure.view.words.now self.now.closure.view.places.now) self.now.mark)
-            (λ fault. (AtFull (signals_of self.now.closure.view.words.now self.now.closure.view.places.now) self.now.mark → ⊥) × (fault_of fault ≡ in_drafts 23)) }
+            (λ _. AtFull (signal_count self.now.closure.view) self.now.mark)
+            (λ fault. (AtFull (signal_count self.now.closure.view) self.now.mark → ⊥) × (fault_of fault ≡ in_drafts 23)) }
     {
         if is_at_full(self.closure.width(), self.mark) {
             Ok(())
@@ -76,32 +73,26 @@ impl<'t, 'r, 'p, 'm> Draft<'t, 'r, 'p, 'm> {
     // Makes one call.
     pub fn answer(&mut self, call: DraftCall) -> DraftAnswer
         ensures does { Does
-            (signals_of self.old.closure.view.words.now self.old.closure.view.places.now)
-            (common (signals_of self.old.closure.view.words.now self.old.closure.view.places.now) self.old.closure.view.words.now)
+            (signal_count self.old.closure.view) (closure_in self.old.closure.view)
             (capacity self.old.rules) call (entries self.old.rules) self.old.mark result (entries self.new.rules) self.new.mark }
         ensures closure { self.new.closure ≡ self.old.closure }
-        ensures size { length self.new.rules.memory.now ≡ length self.old.rules.memory.now }
-        ensures past { drop (length (entries self.new.rules)) self.new.rules.memory.now ≡ drop (length (entries self.new.rules)) self.old.rules.memory.now }
-        ensures link { self.new.rules.memory.ghost_name ≡ self.old.rules.memory.ghost_name }
+        ensures kept { Kept self.old.rules self.new.rules }
     {
         match call {
-            DraftCall::Advance => match self.advance() {
-                Ok(found) => DraftAnswer::Advanced(found),
-                Err(fault) => DraftAnswer::Refused(fault),
-            },
-            DraftCall::TryClose => match self.try_close() {
-                Ok(()) => DraftAnswer::Ready,
-                Err(fault) => DraftAnswer::Refused(fault),
-            },
+            DraftCall::Advance => Ok(DraftGranted::Advanced(self.advance()?)),
+            DraftCall::TryClose => {
+                self.try_close()?;
+                Ok(DraftGranted::Ready)
+            }
         }
     }
 
     // Ends the draft, and gives the base of its table; while the mark is not the full set, the base of the empty table.
     pub fn close(self) -> Base<'t, 'r, 'p, 'm>
-        ensures rules { result.rules.now ≡ closed_to (signals_of self.entry.closure.view.words.now self.entry.closure.view.places.now) self.entry.mark (entries self.entry.rules) }
-        ensures text { result.view.text.now ≡ closed_to (signals_of self.entry.closure.view.words.now self.entry.closure.view.places.now) self.entry.mark self.entry.closure.view.text.now }
-        ensures words { result.view.words.now ≡ closed_to (signals_of self.entry.closure.view.words.now self.entry.closure.view.places.now) self.entry.mark self.entry.closure.view.words.now }
-        ensures places { result.view.places.now ≡ closed_to (signals_of self.entry.closure.view.words.now self.entry.closure.view.places.now) self.entry.mark self.entry.closure.view.places.now }
+        ensures rules { result.rules.now ≡ closed_to (signal_count self.entry.closure.view) self.entry.mark (entries self.entry.rules) }
+        ensures text { result.view.text.now ≡ closed_to (signal_count self.entry.closure.view) self.entry.mark self.entry.closure.view.text.now }
+        ensures words { result.view.words.now ≡ closed_to (signal_count self.entry.closure.view) self.entry.mark self.entry.closure.view.words.now }
+        ensures places { result.view.places.now ≡ closed_to (signal_count self.entry.closure.view) self.entry.mark self.entry.closure.view.places.now }
     {
         let Draft {
             closure,

@@ -3,6 +3,7 @@ ghost use Rattle.draft.specs.declared.faults.DraftFault.TheVariants.{Set, Tray};
 ghost use Rattle.std.specs.Prelude.{◌≡◌};
 
 use fault::Fault;
+use fault::refusal::Refusal;
 use sets::faults::SetFault;
 use tray::faults::TrayFault;
 
@@ -19,25 +20,21 @@ pub enum DraftFault {
     NotAtEnd,
 }
 
-impl DraftFault {
-    // What the refusal tells.
-    pub fn fault(&self) -> Fault
-        ensures told { result ≡ fault_of self.now }
-    {
-        let number = match *self {
-            DraftFault::Set(inner) => return inner.fault(),
-            DraftFault::Tray(inner) => return inner.fault(),
-            DraftFault::AtEnd => 22,
-            DraftFault::NotAtEnd => 23,
-        };
-        Fault {
-            letter: b'D',
-            number,
-            line: 0,
-            byte: 0,
+impl Refusal for DraftFault {
+    ghost tells = { fault_of };
+
+    // What the refusal tells; that of a set or a tray is passed up whole.
+    fn fault(&self) -> Fault {
+        match *self {
+            DraftFault::Set(inner) => inner.fault(),
+            DraftFault::Tray(inner) => inner.fault(),
+            DraftFault::AtEnd => Fault::textless(b'D', 22),
+            DraftFault::NotAtEnd => Fault::textless(b'D', 23),
         }
     }
 }
+
+// Each `From` is by hand: a derived one would have no contract, and clauses name the refusal.
 
 // A refusal of a set, as a draft tells it.
 impl From<SetFault> for DraftFault {

@@ -18,7 +18,7 @@ pub struct Drafted<'t, 'r, 'p, 'm> {
 
 // Begins a draft on a table and a tray, and makes the calls one after another.
 pub fn run<'t, 'r, 'p, 'm>(
-    heap: Global,
+    alloc: Global,
     view: TableView<'t, 'r, 'p>,
     rules: Tray<'m, Rule>,
     calls: &[DraftCall],
@@ -29,7 +29,8 @@ pub fn run<'t, 'r, 'p, 'm>(
     ensures size { IfOk result (λ d. length d.draft.rules.memory.now ≡ length rules.entry.memory.now) }
 {
     let mut draft = Draft::begin(view, rules);
-    let mut answers = Vec::new(heap);
+    let mut answers = Vec::new(alloc);
+    // A loop: of a chain whose closure changes the draft nothing is known afterwards.
     for call in calls {
         answers.push(draft.answer(*call))?;
     }

@@ -1,8 +1,6 @@
 pub mod Bodies
-pub mod ClosedPages
+pub mod Lined
 pub mod Lines
-pub mod PageBodies
 pub mod Parts
 pub mod Replying
 pub mod Reporting
-pub mod SetLines

@@ -94,7 +94,7 @@ module _ {E : Type 0} (shown : Showing E) (names : List (List ℕ)) where
               free = free;
             }
         by_test (inr full) =
-            let refused : line_answer page (shown x names here) after ≡ Err (OfOutput Full) = cond-true _ _ _ shown_same_width ∙ cond-false _ _ _ (and_right _ _ full) in
+            let refused : line_answer page (shown x names here) after ≡ Err (OfOutput Full) = cond-true _ _ _ shown_same_width ∙ cond-false _ _ _ (and_right (ltb page.lines max_lines) _ full) in
             absurd (let z : ◌≡◌ {A = ℕ} 0 1 = cc in omega arith)
 
     -- where a line is refused, all lines do not fit

@@ -1,59 +1,103 @@
 -- The answers to the lines of a text, put one after another.
-use Rattle.std.proofs.Common.{◌≡◌, ℕ, zero, suc, ◌+◌, ◌-◌, ◌<◌, ◌≤◌, Bool, true, false, cond, eqb, ◌⊎◌, List, [], ◌∷◌, ◌++◌, length, take, drop, IfErr, Ok, Err, Result, sym, refl, ap, ◌∙◌, subst, inl, inr, append_assoc, append-nil, arith, length-append, length-drop}
-use Rattle.std.proofs.lemmas.List.{drop_all, drop-drop, take_all}
-use Rattle.std.proofs.lemmas.Bool.{cases_Bool, cond-false, cond-true, le-leb, lt-leb}
+use Rattle.std.proofs.Common.{◌≡◌, ℕ, zero, suc, ◌+◌, ◌<◌, ◌≤◌, Bool, true, false, cond, eqb, List, [], ◌∷◌, ◌++◌, length, get_or, min, take, Ok, Err, Result, sym, refl, ap, ap₂, ◌∙◌, subst, append_assoc, append-nil, arith, length-append}
+use Rattle.std.proofs.lemmas.List.{take-append-le}
+use Rattle.std.proofs.lemmas.Bool.{cond-false, cond-true, le-leb, lt-leb}
 use Rattle.output.specs.declared.faults.OutputFault.{OutputFault}
 use Rattle.output.specs.declared.faults.OutputFault.TheVariants.{Full}
 use Rattle.output.specs.Puts.{after_put, put_answer_of, put_at}
 use Rattle.output.proofs.Sequels.{refused_long, same_fault}
 use Rattle.output.proofs.Writing.{Wrote, length_wrote, wrote_none, wrote_put}
-use Rattle.query.specs.Queries.{known_after, reply_of}
+use Rattle.query.specs.Names.{and_then}
+use Rattle.query.specs.Queries.{known_after, known_by_line, known_upto, pass_up, reply_by_line, reply_of}
+use Rattle.std.specs.List.{IsFirstMatchOrLen}
 use Rattle.query.specs.declared.faults.QueryFault.{QueryFault}
 use Rattle.query.specs.declared.reply.Reply.{Reply}
 use Rattle.text.specs.declared.faults.FieldFault.{FieldFault}
-use Rattle.text.specs.Lines.{feed_from, line_end_of}
+use Rattle.text.specs.Lines.{feed_from}
 use Rattle.job.specs.declared.faults.JobFault.{JobFault}
 use Rattle.job.specs.declared.faults.JobFault.TheVariants.{Output}
-use Rattle.job.specs.Jobs.{Put, behind}
+use Rattle.job.specs.Jobs.{EndsBehind, Put, done}
+use Rattle.output.specs.declared.output.Output as lent
+use Rattle.output.specs.Outputs.{Puts}
+use Rattle.output.proofs.Told.{puts_told, puts_untold}
 use Rattle.job.specs.Replies.{answer_line, answers_by, answers_of, answers_part, rest_after}
-use Rattle.job.specs.Reports.{Lined}
 
--- ---- what is behind a line
+pub length_none : (xs : List ℕ) → length xs ≡ 0 → xs ≡ []
+length_none [] e = refl
+length_none (x ∷ xs) e = absurd (omega arith)
 
-rest_found : (line at end : ℕ) (bs : List ℕ) → Ok end ≡ feed_from line at bs → (at ≤ end) × (drop (end + 1 - at) bs ≡ rest_after bs)
-rest_found line at end [] e = let z : ◌≡◌ {A = ℕ} 0 1 = cc in absurd (omega arith)
-rest_found line at end (b ∷ bs) e = by_test (rest_found line (at + 1) end bs) (cases_Bool (eqb b 10))
-  where
-    by_test : (Ok end ≡ feed_from line (at + 1) bs → (at + 1 ≤ end) × (drop (end + 1 - (at + 1)) bs ≡ rest_after bs)) → (eqb b 10 ≡ true) ⊎ (eqb b 10 ≡ false) → (at ≤ end) × (drop (end + 1 - at) (b ∷ bs) ≡ rest_after (b ∷ bs))
-    by_test further (inl t) =
-        let found : feed_from line at (b ∷ bs) ≡ Ok at = cond-true _ _ _ t in
-        let same : end ≡ at = cc in
-        let one : end + 1 - at ≡ 1 = omega arith in
-        (omega arith, ap (λ n. drop n (b ∷ bs)) one ∙ sym (cond-true _ _ _ t))
-    by_test further (inr f) =
-        let k = further (e ∙ cond-false _ _ _ f) in
-        let more : end + 1 - at ≡ suc (end + 1 - (at + 1)) = omega (arith, k.0) in
-        (omega (arith, k.0), ap (λ n. drop n (b ∷ bs)) more ∙ k.1 ∙ sym (cond-false _ _ _ f))
+-- ---- the first line of a text, with its line feed, and what is behind it
 
-rest_none : (line at : ℕ) (fault : FieldFault) (bs : List ℕ) → Err fault ≡ feed_from line at bs → rest_after bs ≡ []
-rest_none line at fault [] e = refl
-rest_none line at fault (b ∷ bs) e = by_test (rest_none line (at + 1) fault bs) (cases_Bool (eqb b 10))
-  where
-    by_test : (Err fault ≡ feed_from line (at + 1) bs → rest_after bs ≡ []) → (eqb b 10 ≡ true) ⊎ (eqb b 10 ≡ false) → rest_after (b ∷ bs) ≡ []
-    by_test further (inl t) =
-        let found : feed_from line at (b ∷ bs) ≡ Ok at = cond-true _ _ _ t in
-        let z : ◌≡◌ {A = ℕ} 0 1 = cc in
-        absurd (omega arith)
-    by_test further (inr f) = cond-false _ _ _ f ∙ further (e ∙ cond-false _ _ _ f)
+-- the part of a text up to its first line feed, at place i, or all of it, is answered as the text is
+record FirstLine (line at : ℕ) (left part rest : List ℕ) : Type 0 where
+  pub behind : rest ≡ rest_after left
+  pub feed : feed_from line at part ≡ feed_from line at left
+  pub within : (end : ℕ) → Ok end ≡ feed_from line at left → end ≤ at + length part
 
-pub next_found : (text : List ℕ) (line at end : ℕ) → Ok end ≡ line_end_of line at text → drop (end + 1) text ≡ rest_after (drop at text)
-next_found text line at end e =
-    let k = rest_found line at end (drop at text) e in
-    let sum : at + (end + 1 - at) ≡ end + 1 = omega (arith, k.0) in
-    ap (λ n. drop n text) (sym sum) ∙ sym (drop-drop (end + 1 - at) at text) ∙ k.1
+first_line : (line at : ℕ) (left part rest : List ℕ) (i : ℕ) → left ≡ part ++ rest → length part ≡ min (i + 1) (length left)
+    → ((k d : ℕ) → k < i → eqb (get_or left k d) 10 ≡ false) → (i < length left → (d : ℕ) → eqb (get_or left i d) 10 ≡ true) → FirstLine line at left part rest
+first_line line at [] [] rest i split long before here = record { behind = sym split; feed = refl; within = λ end e. let z : ◌≡◌ {A = ℕ} 0 1 = cc in absurd (omega arith) }
+first_line line at [] (c ∷ cs) rest i split long before here = absurd (omega (arith, ap length split))
+first_line line at (b ∷ bs) [] rest i split long before here = absurd (omega arith)
+first_line line at (b ∷ bs) (c ∷ cs) rest zero split long before here =
+    let same : b ≡ c = cc in
+    let more : bs ≡ cs ++ rest = cc in
+    let none : cs ≡ [] = length_none cs (omega arith) in
+    let test : eqb b 10 ≡ true = here (omega arith) 0 in
+    let found : feed_from line at (b ∷ bs) ≡ Ok at = cond-true _ _ _ test in
+    record {
+      behind = sym (more ∙ ap (λ xs. xs ++ rest) none) ∙ sym (cond-true _ _ _ test);
+      feed = ap (λ x. feed_from line at (x ∷ cs)) (sym same) ∙ cond-true _ _ _ test ∙ sym found;
+      within = λ end e. let is : end ≡ at = cc in omega arith;
+    }
+first_line line at (b ∷ bs) (c ∷ cs) rest (suc i) split long before here =
+    let same : b ≡ c = cc in
+    let more : bs ≡ cs ++ rest = cc in
+    let test : eqb b 10 ≡ false = before 0 0 (omega arith) in
+    let further : FirstLine line (at + 1) bs cs rest =
+    first_line line (at + 1) bs cs rest i more (omega arith) (λ k d lt. before (suc k) d (omega arith)) (λ lt d. here (omega arith) d) in
+    record {
+      behind = further.behind ∙ sym (cond-false _ _ _ test);
+      feed = ap (λ x. feed_from line at (x ∷ cs)) (sym same) ∙ cond-false _ _ _ test ∙ further.feed ∙ sym (cond-false _ _ _ test);
+      within = λ end e. let le : end ≤ at + 1 + length cs = further.within end (e ∙ cond-false _ _ _ test) in omega arith;
+    }
 
-pub next_none : (text : List ℕ) (line at : ℕ) (fault : FieldFault) → Err fault ≡ line_end_of line at text → drop (length text) text ≡ rest_after (drop at text)
-next_none text line at fault e = drop_all (length text) text (omega arith) ∙ sym (rest_none line at fault (drop at text) e)
+module _ (names : List (List ℕ)) (rows : List ℕ) (known line : ℕ) (left part rest : List ℕ) (split : left ≡ part ++ rest) (first : FirstLine line 0 left part rest) where
+  front : (end : ℕ) → Ok end ≡ feed_from line 0 left → take end part ≡ take end left
+  front end e = sym (take-append-le end part rest (omega (arith, first.within end e))) ∙ ap (take end) (sym split)
+
+  reply_same : reply_of names rows known line part ≡ reply_of names rows known line left
+  reply_same = ap (λ r. and_then (pass_up r) (λ end. reply_by_line names rows known line (take end part))) first.feed ∙ of (feed_from line 0 left) front
+    where
+      of : (r : Result ℕ FieldFault) → ((end : ℕ) → Ok end ≡ r → take end part ≡ take end left)
+          → and_then (pass_up r) (λ end. reply_by_line names rows known line (take end part)) ≡ and_then (pass_up r) (λ end. reply_by_line names rows known line (take end left))
+      of (Ok end) h = ap (reply_by_line names rows known line) (h end refl)
+      of (Err e) h = refl
+
+  known_same : known_after names known line part ≡ known_after names known line left
+  known_same = ap (known_upto names known line part) first.feed ∙ of (feed_from line 0 left) front
+    where
+      of : (r : Result ℕ FieldFault) → ((end : ℕ) → Ok end ≡ r → take end part ≡ take end left) → known_upto names known line part r ≡ known_upto names known line left r
+      of (Ok end) h = ap (known_by_line names known line) (h end refl)
+      of (Err e) h = refl
+
+-- the next line that cutting a text behind its line feeds gives
+pub record NextLine (names : List (List ℕ)) (rows : List ℕ) (known line : ℕ) (left part rest : List ℕ) : Type 0 where
+  pub behind : rest ≡ rest_after left
+  pub reply : reply_of names rows known line part ≡ reply_of names rows known line left
+  pub known_then : known_after names known line part ≡ known_after names known line left
+  pub shorter : length rest < length left
+
+pub next_line : (names : List (List ℕ)) (rows : List ℕ) (known line : ℕ) (left part rest : List ℕ) (i : ℕ) → left ≡ part ++ rest → 0 < length left → length part ≡ min (i + 1) (length left)
+    → IsFirstMatchOrLen (λ b. eqb b 10) left i → NextLine names rows known line left part rest
+next_line names rows known line left part rest i split some long at =
+    let first = first_line line 0 left part rest i split long (λ k d lt. at.0 k d (omega arith) lt) (λ lt d. at.1 lt d) in
+    record {
+      behind = first.behind;
+      reply = reply_same names rows known line left part rest split first;
+      known_then = known_same names rows known line left part rest split first;
+      shorter = omega (arith, ap length split, length-append part rest);
+    }
 
 rest_short : (bs : List ℕ) → length (rest_after bs) ≤ length bs
 rest_short [] = omega arith
@@ -69,10 +113,6 @@ rest_shorter b bs = at (eqb b 10) (rest_short bs)
     at : (t : Bool) → length (rest_after bs) ≤ length bs → length (cond t bs (rest_after bs)) ≤ length bs
     at true h = omega arith
     at false h = h
-
--- the part of a text from a position on
-pub part_all : (at : ℕ) (text : List ℕ) → take (length text - at) (drop at text) ≡ drop at text
-part_all at text = take_all (length text - at) (drop at text) (omega (arith, length-drop at text))
 
 -- ---- line by line
 
@@ -104,9 +144,9 @@ module _ (names : List (List ℕ)) (rows : List ℕ) where
     pub written : Wrote at front before after end
     pub comes : whole ≡ front ++ answers_by names rows (length left) known line left
 
-  pub answering_start : (at known line : ℕ) (out left : List ℕ) → known ≡ 0 → at ≤ length out → Answering at (answers_of names rows line left) out out at known line left
-  answering_start at known line out left none room =
-      record { front = []; written = wrote_none at out room; comes = ap (λ k. answers_by names rows (length left) k line left) (sym none) }
+  pub answering_start_at : (at known line : ℕ) (out left text : List ℕ) → left ≡ text → known ≡ 0 → at ≤ length out → Answering at (answers_of names rows line text) out out at known line left
+  answering_start_at at known line out left text all none room =
+      record { front = []; written = wrote_none at out room; comes = ap (λ xs. answers_of names rows line xs) (sym all) ∙ ap (λ k. answers_by names rows (length left) k line left) (sym none) }
 
   module _
       (at : ℕ) (whole before after : List ℕ) (end known line : ℕ) (left : List ℕ) (a : Answering at whole before after end known line left) (some : 0 < length left)
@@ -118,39 +158,43 @@ module _ (names : List (List ℕ)) (rows : List ℕ) where
         ∙ sym (append_assoc a.front (answer_line reply) _)
 
     -- an answer that fits
-    pub answering_more : (later : List ℕ) (next learnt : ℕ) (rest : List ℕ) → Ok next ≡ put_answer_of end (answer_line reply) after → later ≡ after_put end (answer_line reply) after
-        → learnt ≡ known_after names known line left → rest ≡ rest_after left → Answering at whole before later next learnt (line + 1) rest
-    answering_more later next learnt rest answer put learns goes =
+    pub answering_more : (a_out b_out : lent.Output) (r : Result Unit OutputFault) → a_out.at ≡ end → a_out.bytes.now ≡ after → r ≡ Ok tt → Puts (answer_line reply) a_out r b_out
+        → (learnt : ℕ) (rest : List ℕ) → learnt ≡ known_after names known line left → rest ≡ rest_after left → Answering at whole before b_out.bytes.now b_out.at learnt (line + 1) rest
+    answering_more a_out b_out r ea eo granted puts learnt rest learns goes =
+        let put = puts_told (answer_line reply) a_out b_out r granted puts in
         record {
           front = a.front ++ answer_line reply;
-          written = wrote_put at a.front (answer_line reply) before after later end next a.written answer put;
+          written = wrote_put at a.front (answer_line reply) before after b_out.bytes.now end b_out.at a.written
+              (put.0 ∙ ap₂ (λ n o. put_answer_of n (answer_line reply) o) ea eo) (put.1 ∙ ap₂ (λ n o. after_put n (answer_line reply) o) ea eo);
           comes = split
               ∙ ap (λ k. (a.front ++ answer_line reply) ++ answers_by names rows (length (rest_after left)) k (line + 1) (rest_after left)) (sym learns)
               ∙ ap (λ xs. (a.front ++ answer_line reply) ++ answers_by names rows (length xs) learnt (line + 1) xs) (sym goes);
         }
 
     -- one that does not
-    pub answering_full : (r : Result ℕ JobFault) (f : OutputFault) (later : List ℕ) → Err f ≡ put_answer_of end (answer_line reply) after → r ≡ Err (Output f)
-        → (r ≡ behind at (answers_part at whole (length before))) × Put at (answers_part at whole (length before)) before later × IfErr r (λ e. Lined e)
-    answering_full r f later answer same =
+    pub answering_full : (a_out b_out : lent.Output) (r : Result Unit JobFault) (f : OutputFault) → a_out.at ≡ end → a_out.bytes.now ≡ after → Puts (answer_line reply) a_out (Err f) b_out → r ≡ Err (Output f)
+        → (r ≡ done (answers_part at whole (length before))) × Put at (answers_part at whole (length before)) before b_out.bytes.now × EndsBehind at (answers_part at whole (length before)) b_out.at
+    answering_full a_out b_out r f ea eo puts same =
+        let answer : Err f ≡ put_answer_of end (answer_line reply) after = puts_untold (answer_line reply) a_out b_out f puts ∙ ap₂ (λ n o. put_answer_of n (answer_line reply) o) ea eo in
         let long : length after < end + length (answer_line reply) = refused_long end (answer_line reply) after f answer in
         let rest = answers_by names rows (length (rest_after left)) (known_after names known line left) (line + 1) (rest_after left) in
         let over : length before < at + length whole =
         omega (arith, a.written.behind, length_wrote _ _ _ _ _ a.written, ap length split, length-append (a.front ++ answer_line reply) rest, length-append a.front (answer_line reply)) in
         let part : answers_part at whole (length before) ≡ Err (Output Full) = cond-false _ _ _ (lt-leb _ _ over) in
         let told : r ≡ Err (Output Full) = same ∙ ap (λ x. Err (Output x)) (same_fault f Full) in (
-          told ∙ sym (ap (behind at) part),
-          subst (λ p. Put at p before later) (sym part) tt,
-          subst (λ x. IfErr x (λ e. Lined e)) (sym told) (record { line = omega arith; byte = omega arith }),
+          told ∙ sym (ap done part),
+          subst (λ p. Put at p before b_out.bytes.now) (sym part) tt,
+          subst (λ p. EndsBehind at p b_out.at) (sym part) tt,
         )
 
   -- all lines are answered
   pub answering_all : (at : ℕ) (whole before after : List ℕ) (end known line : ℕ) (left : List ℕ) → Answering at whole before after end known line left → left ≡ []
-      → (Ok end ≡ behind at (answers_part at whole (length before))) × Put at (answers_part at whole (length before)) before after
+      → (Ok tt ≡ done (answers_part at whole (length before))) × Put at (answers_part at whole (length before)) before after × EndsBehind at (answers_part at whole (length before)) end
   answering_all at whole before after end known line left a none =
       let same : whole ≡ a.front = a.comes ∙ ap (λ xs. a.front ++ answers_by names rows (length xs) known line xs) none ∙ append-nil a.front in
       let fits : at + length whole ≤ length before = omega (arith, a.written.room, ap length same) in
       let part : answers_part at whole (length before) ≡ Ok whole = cond-true _ _ _ (le-leb _ _ fits) in (
-        ap Ok (a.written.behind ∙ ap (λ bs. at + length bs) (sym same)) ∙ sym (ap (behind at) part),
+        sym (ap done part),
         subst (λ p. Put at p before after) (sym part) (a.written.whole ∙ ap (λ bs. put_at at bs before) (sym same)),
+        subst (λ p. EndsBehind at p end) (sym part) (a.written.behind ∙ ap (λ bs. at + length bs) (sym same)),
       )

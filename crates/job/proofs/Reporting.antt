@@ -1,5 +1,5 @@
 -- What reading, and then writing, leaves in an output.
-use Rattle.std.proofs.Common.{◌≡◌, ℕ, ◌+◌, ◌-◌, ◌^◌, ◌<◌, ◌≤◌, true, List, [], ◌∷◌, ◌++◌, length, take, drop, replicate, IfErr, Ok, Err, codes, decimal, Result, sym, refl, ap, ◌∙◌, subst, zero-add, arith, length-append}
+use Rattle.std.proofs.Common.{◌≡◌, ℕ, ◌+◌, ◌-◌, ◌^◌, ◌<◌, ◌≤◌, Bool, true, false, cond, ltb, List, [], ◌∷◌, ◌++◌, length, take, drop, replicate, Ok, Err, decimal, Result, sym, refl, ap, ◌∙◌, subst, zero-add, arith, length-append, MatchResult}
 use Rattle.std.proofs.lemmas.Fmt.{length-decimal-le}
 use Rattle.std.proofs.lemmas.List.{append-nil, drop_all, drop-replicate, length-drop, length-replicate, take_at}
 use borrow.Rule.Slice.PartMut.{put_mid}
@@ -21,8 +21,7 @@ use Rattle.view.specs.Views.{fit}
 use Rattle.view.proofs.OwnText.{own_fit, own_text}
 use Rattle.output.specs.declared.faults.OutputFault.{OutputFault}
 use Rattle.output.proofs.Sequels.{refused_long, same_fault}
-use Rattle.std.proofs.lemmas.Bool.{cond-true, cond-false, le-leb, lt-leb, le-ltb}
-use Rattle.output.specs.Records.{record_line}
+use Rattle.std.proofs.lemmas.Bool.{cond-true, cond-false, le-leb, lt-leb}
 use Rattle.table.specs.declared.place.Place.{Place}
 use Rattle.view.specs.Texts.{shown_text}
 use Rattle.job.specs.declared.faults.JobFault.{JobFault}
@@ -34,7 +33,10 @@ use Rattle.sets.specs.declared.faults.SetFault.{SetFault}
 use Rattle.sets.specs.declared.faults.SetFault.TheVariants.{Unfit, NotInside, OtherWidth, Ended}
 use Rattle.tray.specs.declared.faults.TrayFault.TheVariants.{Full as NoPlace}
 use Rattle.job.specs.Faults.{fault_of}
-use Rattle.job.specs.Reports.{fault_line, read_line, reported, fitted, report_text, job_of, count_of, padded, refused_output, output_after, Lined, Reports}
+use Rattle.view.specs.declared.table_view.TableView.{TableView}
+use Rattle.job.specs.Jobs.{Put, behind}
+use Rattle.job.specs.Reports.{fault_line, read_line, reported, report_of, fitted, report_text, count_of, min_output, padded, refused_output, output_after, Lined}
+use Rattle.job.proofs.Lined.{LinedOr}
 
 -- bytes put at the front of zeros are followed by zeros
 pub put_zeros : (n : ℕ) (bytes : List ℕ) → put_at 0 bytes (replicate n 0) ≡ padded n bytes
@@ -120,24 +122,12 @@ refused_reading (Ok c) e is = let z : ◌≡◌ {A = ℕ} 0 1 = cc in absurd (om
 refused_reading (Err f) e is = let same : e ≡ f = cc in ap Err (sym same)
 
 -- nothing more is owed where reading refuses
-pub reading_refused : (text : List ℕ) (size : ℕ) (before after : List ℕ) (r : Result Contents TableFault) (e : TableFault) (answer : Result ℕ JobFault)
-    → Err e ≡ answer_of r → answer ≡ Err (Table e) → Near (tables.fault_of e)
-    → (answer ≡ count_of (fitted text size r)) × Reports (fitted text size r) before after × IfErr answer (λ x. Lined x)
-reading_refused text size before after r e answer is answer_is near =
-    let same = refused_reading r e is in (
-      answer_is ∙ sym (ap (λ x. count_of (fitted text size x)) same),
-      subst (λ x. Reports (fitted text size x) before after) (sym same) tt,
-      subst (λ x. IfErr x (λ y. Lined y)) (sym answer_is) near,
-    )
-
--- the line and the text that are put are those of the report
-pub report_same : (g m bytes : ℕ) (tx wx text words : List ℕ) (px places : List Place)
-    → g ≡ length wx → m ≡ length px - length wx → tx ≡ text → wx ≡ words → px ≡ places
-    → record_line (codes "read") (g ∷ m ∷ bytes ∷ []) ++ shown_text tx wx px ≡ report_text text words places bytes
-report_same g m bytes tx wx text words px places g-is m-is text_is words-is places_is =
-    ap (λ k. record_line (codes "read") (k ∷ m ∷ bytes ∷ []) ++ shown_text tx wx px) g-is
-    ∙ ap (λ k. record_line (codes "read") (length wx ∷ k ∷ bytes ∷ []) ++ shown_text tx wx px) m-is
-    ∙ ap (λ x. report_text x wx px bytes) text_is ∙ ap (λ x. report_text text x px bytes) words-is ∙ ap (λ x. report_text text words x bytes) places_is
+pub reading_refused : (part : Result Contents TableFault → Result (List ℕ) JobFault) → ((e : TableFault) → part (Err e) ≡ Err (Table e))
+    → (out : List ℕ) (r : Result Contents TableFault) (e : TableFault) (answer : Result ℕ JobFault) → Err e ≡ answer_of r → answer ≡ Err (Table e)
+    → (answer ≡ behind 0 (part r)) × Put 0 (part r) out out
+reading_refused part passes out r e answer is told =
+    let same = ap part (refused_reading r e is) ∙ passes e in
+    (told ∙ sym (ap (behind 0) same), subst (λ p. Put 0 p out out) (sym same) tt)
 
 -- behind the rest of an output there is nothing
 pub front_part : (at : ℕ) (out rest : List ℕ) → put_mid at (length out - at) out rest ≡ take at out ++ rest
@@ -153,8 +143,8 @@ pub record Granted (text words : List ℕ) (places : List Place) (a : Reading) (
   pub signals_few : a.signals ≤ 60
   pub row_room : a.rows ≤ length words
   pub place_room : a.rows + a.signals ≤ length places
-  pub rows : take (a.rows - 0) ws ≡ contents.words
-  pub names : take (a.rows + a.signals - 0) ps ≡ contents.places
+  pub rows : take a.rows ws ≡ contents.words
+  pub names : take (a.rows + a.signals) ps ≡ contents.places
   pub bytes : a.bytes ≡ contents.bytes
 
 pub granted : (text words : List ℕ) (places : List Place) (a : Reading) (ws : List ℕ) (ps : List Place)
@@ -166,8 +156,8 @@ granted text words places a ws ps answer ws-is ps-is =
     let found = answered (read_of text (length words) (length places)) a answer in
     let c : Contents = found.0 in
     let shape = places_long text (length words) (length places) c found.1 in
-    let rows : length c.words ≡ a.rows - 0 = omega (arith, found.2) in
-    let names : length c.places ≡ a.rows + a.signals - 0 = omega (arith, found.2, found.3, shape.many) in
+    let rows : length c.words ≡ a.rows = omega (arith, found.2) in
+    let names : length c.places ≡ a.rows + a.signals = omega (arith, found.2, found.3, shape.many) in
     record {
       contents = c;
       is = found.1;
@@ -175,67 +165,65 @@ granted text words places a ws ps answer ws-is ps-is =
       signals_few = omega (arith, found.3, shape.signals_few);
       row_room = omega (arith, found.2, shape.row_room);
       place_room = omega (arith, found.2, found.3, shape.many, shape.place_room);
-      rows = ap (take (a.rows - 0)) (ws-is ∙ ap (λ r. words_after r words) found.1) ∙ take_at c.words _ (a.rows - 0) rows;
-      names = ap (take (a.rows + a.signals - 0)) (ps-is ∙ ap (λ r. places_after r places) found.1) ∙ take_at c.places _ (a.rows + a.signals - 0) names;
+      rows = ap (take a.rows) (ws-is ∙ ap (λ r. words_after r words) found.1) ∙ take_at c.words _ a.rows rows;
+      names = ap (take (a.rows + a.signals)) (ps-is ∙ ap (λ r. places_after r places) found.1) ∙ take_at c.places _ (a.rows + a.signals) names;
       bytes = found.4;
     }
 
 module _ (text words : List ℕ) (places : List Place) (a : Reading) (ws : List ℕ) (ps : List Place) (g : Granted text words places a ws ps) where
   -- the parts read are fit to be viewed
-  pub granted_fit : fit text (take (a.rows - 0) ws) (take (a.rows + a.signals - 0) ps) ≡ true
+  granted_fit : fit text (take a.rows ws) (take (a.rows + a.signals) ps) ≡ true
   granted_fit =
-      ap (λ x. fit text x (take (a.rows + a.signals - 0) ps)) g.rows ∙ ap (fit text g.contents.words) g.names
+      ap (λ x. fit text x (take (a.rows + a.signals) ps)) g.rows ∙ ap (fit text g.contents.words) g.names
       ∙ own_fit text (length words) (length places) g.contents g.is
 
-  -- what is put is the report of the text
-  pub granted_text : report_text text (take (a.rows - 0) ws) (take (a.rows + a.signals - 0) ps) a.bytes ≡ reported text g.contents
-  granted_text =
-      let c : Contents = g.contents in
-      let signals : length c.places - length c.words ≡ c.signals = omega (arith, (places_long text (length words) (length places) c g.is).many) in
-      ap (λ x. report_text text x (take (a.rows + a.signals - 0) ps) a.bytes) g.rows ∙ ap (λ x. report_text text c.words x a.bytes) g.names
-      ∙ ap (report_text text c.words c.places) g.bytes
-      ∙ ap (λ k. read_line (length c.words) k c.bytes ++ shown_text text c.words c.places) signals
-      ∙ ap (λ bs. read_line (length c.words) c.signals c.bytes ++ bs) (own_text text (length words) (length places) c g.is)
+  -- they lie in the memory
+  pub view_fits : length ws ≡ length words → length ps ≡ length places → (a.rows ≤ length ws) × (a.rows + a.signals ≤ length ps) × (fit text (take a.rows ws) (take (a.rows + a.signals) ps) ≡ true)
+  view_fits ew ep = (omega (arith, g.row_room), omega (arith, g.place_room), granted_fit)
 
-  -- granted, the report is put
-  pub report_granted : (out after : List ℕ) (n : ℕ)
-      → Ok n ≡ put_answer_of 0 (report_text text (take (a.rows - 0) ws) (take (a.rows + a.signals - 0) ps) a.bytes) out
-      → after ≡ put_at 0 (report_text text (take (a.rows - 0) ws) (take (a.rows + a.signals - 0) ps) a.bytes) out
-      → (Ok n ≡ count_of (fitted text (length out) (read_of text (length words) (length places)))) × Reports (fitted text (length out) (read_of text (length words) (length places))) out after
-  report_granted out after n e put =
-      let B : List ℕ = reported text g.contents in
-      let e2 : Ok n ≡ put_answer_of 0 B out = e ∙ ap (λ bs. put_answer_of 0 bs out) granted_text in
-      let fits : 0 + length B ≤ length out = granted_fits 0 n B out e2 in
-      let answer : put_answer_of 0 B out ≡ Ok (0 + length B) = answer_fits 0 B out fits in
-      let count : n ≡ 0 + length B = cc in
-      let whole : fitted text (length out) (read_of text (length words) (length places)) ≡ Ok B =
-      ap (fitted text (length out)) g.is ∙ cond-true _ _ _ (le-leb (length B) (length out) (omega arith)) in
-      (ap Ok (count ∙ zero-add (length B)) ∙ sym (ap count_of whole), subst (λ r. Reports r out after) (sym whole) (put ∙ ap (λ bs. put_at 0 bs out) granted_text))
+  -- a view of them
+  module _ (view : TableView) (text_is : view.text.now ≡ text) (words_are : view.words.now ≡ take a.rows ws) (places_are : view.places.now ≡ take (a.rows + a.signals) ps) where
+    -- what is put is the report of the text
+    granted_text : report_of view a.bytes ≡ reported text g.contents
+    granted_text =
+        let c : Contents = g.contents in
+        let signals : length c.places - length c.words ≡ c.signals = omega (arith, (places_long text (length words) (length places) c g.is).many) in
+        ap (λ x. report_text x view.words.now view.places.now a.bytes) text_is
+        ∙ ap (λ x. report_text text x view.places.now a.bytes) (words_are ∙ g.rows) ∙ ap (λ x. report_text text c.words x a.bytes) (places_are ∙ g.names)
+        ∙ ap (report_text text c.words c.places) g.bytes
+        ∙ ap (λ k. read_line (length c.words) k c.bytes ++ shown_text text c.words c.places) signals
+        ∙ ap (λ bs. read_line (length c.words) c.signals c.bytes ++ bs) (own_text text (length words) (length places) c g.is)
 
-  -- refused, it does not fit
-  pub report_refused : (out after : List ℕ) (f : OutputFault) (r : Result ℕ JobFault)
-      → Err f ≡ put_answer_of 0 (report_text text (take (a.rows - 0) ws) (take (a.rows + a.signals - 0) ps) a.bytes) out → r ≡ Err (Output f)
-      → (r ≡ count_of (fitted text (length out) (read_of text (length words) (length places)))) × Reports (fitted text (length out) (read_of text (length words) (length places))) out after
-      × IfErr r (λ x. Lined x)
-  report_refused out after f r e r-is =
-      let B : List ℕ = reported text g.contents in
-      let long : length out < 0 + length B = refused_long 0 B out f (e ∙ ap (λ bs. put_answer_of 0 bs out) granted_text) in
-      let whole : fitted text (length out) (read_of text (length words) (length places)) ≡ Err (Output Full) =
-      ap (fitted text (length out)) g.is ∙ cond-false _ _ _ (lt-leb (length B) (length out) (omega arith)) in
-      let same : r ≡ Err (Output Full) = r-is ∙ ap (λ x. Err (Output x)) (same_fault f Full) in (
-        same ∙ sym (ap count_of whole),
-        subst (λ x. Reports x out after) (sym whole) tt,
-        subst (λ x. IfErr x (λ y. Lined y)) (sym same) (record { line = omega arith; byte = omega arith }),
-      )
+    -- granted, the report is put
+    pub report_granted : (out after : List ℕ) (n : ℕ) → Ok n ≡ put_answer_of 0 (report_of view a.bytes) out → after ≡ put_at 0 (report_of view a.bytes) out
+        → (Ok n ≡ behind 0 (fitted text (length out) (read_of text (length words) (length places)))) × Put 0 (fitted text (length out) (read_of text (length words) (length places))) out after
+    report_granted out after n e put =
+        let B : List ℕ = reported text g.contents in
+        let e2 : Ok n ≡ put_answer_of 0 B out = e ∙ ap (λ bs. put_answer_of 0 bs out) granted_text in
+        let fits : 0 + length B ≤ length out = granted_fits 0 n B out e2 in
+        let answer : put_answer_of 0 B out ≡ Ok (0 + length B) = answer_fits 0 B out fits in
+        let count : n ≡ 0 + length B = cc in
+        let whole : fitted text (length out) (read_of text (length words) (length places)) ≡ Ok B =
+        ap (fitted text (length out)) g.is ∙ cond-true _ _ _ (le-leb (length B) (length out) (omega arith)) in
+        (ap Ok count ∙ sym (ap (behind 0) whole), subst (λ r. Put 0 r out after) (sym whole) (put ∙ ap (λ bs. put_at 0 bs out) granted_text))
 
--- an output that is not small
-pub job_large : (text : List ℕ) (rr pr size : ℕ) → 32 ≤ size → job_of text rr pr size ≡ fitted text size (read_of text rr pr)
-job_large text rr pr size le = cond-false _ _ _ (le-ltb size 32 le)
+    -- refused, it does not fit
+    pub report_refused : (out after : List ℕ) (f : OutputFault) (r : Result ℕ JobFault) → Err f ≡ put_answer_of 0 (report_of view a.bytes) out → r ≡ Err (Output f)
+        → (r ≡ behind 0 (fitted text (length out) (read_of text (length words) (length places)))) × Put 0 (fitted text (length out) (read_of text (length words) (length places))) out after
+    report_refused out after f r e r-is =
+        let B : List ℕ = reported text g.contents in
+        let long : length out < 0 + length B = refused_long 0 B out f (e ∙ ap (λ bs. put_answer_of 0 bs out) granted_text) in
+        let whole : fitted text (length out) (read_of text (length words) (length places)) ≡ Err (Output Full) =
+        ap (fitted text (length out)) g.is ∙ cond-false _ _ _ (lt-leb (length B) (length out) (omega arith)) in
+        let same : r ≡ Err (Output Full) = r-is ∙ ap (λ x. Err (Output x)) (same_fault f Full) in
+        (same ∙ sym (ap (behind 0) whole), subst (λ x. Put 0 x out after) (sym whole) tt)
 
--- a granted job leaves its report and zeros
-pub job_granted : (size n : ℕ) (x : Result (List ℕ) JobFault) (before after : List ℕ) → before ≡ replicate size 0 → Ok n ≡ count_of x → Reports x before after → after ≡ output_after size x
-job_granted size n (Ok bytes) before after zeros e put = put ∙ ap (put_at 0 bytes) zeros ∙ put_zeros size bytes
-job_granted size n (Err f) before after zeros e put = let z : ◌≡◌ {A = ℕ} 0 1 = cc in absurd (omega arith)
+-- ---- the frame of a job: zeros, a part at the front of them, and its fault line and zeros where it is refused
+
+-- a position behind a part at the front is its length
+pub behind_front : (p : Result (List ℕ) JobFault) → behind 0 p ≡ count_of p
+behind_front (Ok bytes) = ap Ok (zero-add (length bytes))
+behind_front (Err e) = refl
 
 lined_output : (size : ℕ) (e : JobFault) → Lined e → padded size (fault_line (fault_of e)) ≡ refused_output size e
 lined_output size (Table inner) lined = refl
@@ -245,9 +233,30 @@ lined_output size (Page inner) lined = refl
 lined_output size (Draft inner) lined = refl
 lined_output size SmallOutput none = absurd none
 
--- a refused job leaves its fault line and zeros
-pub job_refused : (size : ℕ) (x : Result (List ℕ) JobFault) (e : JobFault) (after : List ℕ) → Err e ≡ count_of x → Lined e → after ≡ padded size (fault_line (fault_of e)) → after ≡ output_after size x
-job_refused size (Ok bytes) e after is lined put = let z : ◌≡◌ {A = ℕ} 0 1 = cc in absurd (omega arith)
-job_refused size (Err f) e after is lined put =
-    let same : e ≡ f = cc in
-    put ∙ lined_output size e lined ∙ ap (refused_output size) same
+-- what the output holds once the answer is settled
+pub settled : (size : ℕ) (p : Result (List ℕ) JobFault) (r : Result ℕ JobFault) (before middle after : List ℕ) → before ≡ replicate size 0 → length middle ≡ size → r ≡ behind 0 p → Put 0 p before middle → LinedOr p
+    → MatchResult r (λ n. after ≡ middle) (λ e. after ≡ padded (length middle) (fault_line (fault_of e))) → after ≡ output_after size p
+settled size (Ok bytes) r before middle after zeros long is put lined out =
+    let kept : after ≡ middle = subst (λ x. MatchResult x (λ n. after ≡ middle) (λ e. after ≡ padded (length middle) (fault_line (fault_of e)))) is out in
+    kept ∙ put ∙ ap (put_at 0 bytes) zeros ∙ put_zeros size bytes
+settled size (Err e) r before middle after zeros long is put lined out =
+    let told : after ≡ padded (length middle) (fault_line (fault_of e)) = subst (λ x. MatchResult x (λ n. after ≡ middle) (λ f. after ≡ padded (length middle) (fault_line (fault_of f)))) is out in
+    told ∙ ap (λ n. padded n (fault_line (fault_of e))) long ∙ lined_output size e lined
+
+-- an output that is not small
+pub not_small : (size : ℕ) → ◌≡◌ {A = Result Unit JobFault} (Ok tt) (cond (ltb size min_output) (Err SmallOutput) (Ok tt)) → ltb size min_output ≡ false
+not_small size e = of (ltb size min_output) e
+  where
+    of : (b : Bool) → ◌≡◌ {A = Result Unit JobFault} (Ok tt) (cond b (Err SmallOutput) (Ok tt)) → b ≡ false
+    of true e = absurd (let z : ◌≡◌ {A = ℕ} 0 1 = cc in omega arith)
+    of false e = refl
+
+-- a job in its frame
+pub framed : (size : ℕ) (part : Result (List ℕ) JobFault) (r s : Result ℕ JobFault) (before middle after : List ℕ) → ltb size min_output ≡ false → before ≡ replicate size 0 → length middle ≡ size
+    → r ≡ behind 0 part → Put 0 part before middle → LinedOr part → s ≡ r → MatchResult r (λ n. after ≡ middle) (λ e. after ≡ padded (length middle) (fault_line (fault_of e)))
+    → (s ≡ count_of (cond (ltb size min_output) (Err SmallOutput) part)) × (after ≡ output_after size (cond (ltb size min_output) (Err SmallOutput) part))
+framed size part r s before middle after large zeros long is put lined same out =
+    let whole : cond (ltb size min_output) (Err SmallOutput) part ≡ part = cond-false _ _ _ large in (
+      same ∙ is ∙ behind_front part ∙ sym (ap count_of whole),
+      settled size part r before middle after zeros long is put lined out ∙ sym (ap (output_after size) whole),
+    )

@@ -1,10 +1,11 @@
 -- What a job that lists the closed sets of a table puts into its output.
-use Rattle.std.specs.Prelude.{◌≡◌, ℕ, ◌+◌, ◌^◌, min, cond, List, [], ◌∷◌, ◌++◌, length, Ok, Err, Result, nat_le, nat_lt}
+--
+--   part    what one step of a job puts: its bytes, or why the job is refused there
+--   at      the position at which a part stands: behind the parts before it
+use Rattle.std.specs.Prelude.{◌≡◌, ℕ, ◌^◌, min, true, cond, List, length, Ok, Err, Result, nat_le, nat_lt}
 use Rattle.operators.specs.TableClosure.{signals_of}
-use Rattle.output.specs.declared.faults.OutputFault.TheVariants.{Full}
-use Rattle.page.specs.Pages.{closed_head, set_line_of, foot, reserve, signal_names}
+use Rattle.page.specs.Pages.{closed_head, foot, set_line_of, signal_names}
 use Rattle.page.specs.declared.faults.PageFault.{PageFault}
-use Rattle.page.specs.declared.faults.PageFault.TheVariants.{Output as OfOutput}
 use Rattle.sets.specs.declared.set.Set.{Set}
 use Rattle.survey.specs.Fills.{Filled}
 use Rattle.table.specs.declared.faults.TableFault.{TableFault}
@@ -16,48 +17,44 @@ use Rattle.tray.specs.declared.faults.TrayFault.TheVariants.{Full as NoPlace}
 use Rattle.tray.specs.Tray.{max_entries}
 use Rattle.job.specs.declared.faults.JobFault.{JobFault}
 use Rattle.job.specs.declared.faults.JobFault.TheVariants.{SmallOutput, Table, Tray, Page}
+use Rattle.job.specs.Lists.{Showing, lines_of, page_at}
+use Rattle.job.specs.Reports.{min_output}
 
 -- the closed sets of a table, as words in the lectic order
 abbrev pub closed_words : List ℕ → List Place → List ℕ
 closed_words words places = closed_below (common (signals_of words places) words) (2 ^ signals_of words places)
 
+-- the line of a set, by its word
+abbrev pub shown_word : Showing ℕ
+shown_word word names place = record { same_width = true; bytes = set_line_of names word place }
+
 -- the lines of sets, from a place on
 abbrev pub lines_of_sets : (names : List (List ℕ)) → (place : ℕ) → List ℕ → List ℕ
-lines_of_sets names place [] = []
-lines_of_sets names place (w ∷ ws) = set_line_of names w place ++ lines_of_sets names (place + 1) ws
-
--- a page of sets without its foot
-abbrev pub body_of : (letter m : ℕ) → (names : List (List ℕ)) → List ℕ → List ℕ
-body_of letter m names ws = closed_head letter m ++ lines_of_sets names 0 ws
-
--- a page of sets
-abbrev pub page_of : (letter m : ℕ) → (names : List (List ℕ)) → List ℕ → List ℕ
-page_of letter m names ws = body_of letter m names ws ++ foot (length ws)
-
--- the page, if there is room for it before the bytes that are set aside for its foot
-abbrev pub paged : (letter m : ℕ) → (names : List (List ℕ)) → List ℕ → (size : ℕ) → Result (List ℕ) PageFault
-paged letter m names ws size = cond (nat_le (length (body_of letter m names ws) + reserve) size) (Ok (page_of letter m names ws)) (Err (OfOutput Full))
+lines_of_sets names place ws = lines_of shown_word names place ws
 
 -- a fault of a page, inside a fault of the job
 abbrev pub in_job : Result (List ℕ) PageFault → Result (List ℕ) JobFault
 in_job (Ok bytes) = Ok bytes
 in_job (Err e) = Err (Page e)
 
--- the closed page of a table, whose operator has the letter G, the byte 71: the tray must have place for the sets, and then the output for the page
-abbrev pub listed_parts : (text words : List ℕ) → List Place → (set_room size : ℕ) → Result (List ℕ) JobFault
-listed_parts text words places set_room size =
-    cond (nat_le (length (closed_words words places)) (min set_room max_entries))
-    (in_job (paged 71 (signals_of words places) (signal_names text words places) (closed_words words places) size))
-    (Err (Tray NoPlace))
+-- a page of so many entries: the tray must have place for them, and then the output for the page
+abbrev pub part_of : (count room : ℕ) → JobFault → Result (List ℕ) PageFault → Result (List ℕ) JobFault
+part_of count room fault page = cond (nat_le count room) (in_job page) (Err fault)
 
--- the same of what was read
+-- the closed page of a table at a position, whose operator has the letter G, the byte 71
+abbrev pub closed_part : (text words : List ℕ) → List Place → (set_room at size : ℕ) → Result (List ℕ) JobFault
+closed_part text words places set_room at size =
+    part_of (length (closed_words words places)) (min set_room max_entries) (Tray NoPlace)
+    (page_at at (closed_head 71 (signals_of words places)) (lines_of_sets (signal_names text words places) 0 (closed_words words places)) (foot (length (closed_words words places))) size)
+
+-- the closed page of what was read, at the front of the output
 abbrev pub listed : (text : List ℕ) (set_room size : ℕ) → Result Contents TableFault → Result (List ℕ) JobFault
-listed text set_room size (Ok c) = listed_parts text c.words c.places set_room size
+listed text set_room size (Ok c) = closed_part text c.words c.places set_room 0 size
 listed text set_room size (Err e) = Err (Table e)
 
 -- the bytes of the job's page, or why it is refused
 abbrev pub closed_job_of : (text : List ℕ) (row_room place_room set_room size : ℕ) → Result (List ℕ) JobFault
-closed_job_of text row_room place_room set_room size = cond (nat_lt size 32) (Err SmallOutput) (listed text set_room size (read_of text row_room place_room))
+closed_job_of text row_room place_room set_room size = cond (nat_lt size min_output) (Err SmallOutput) (listed text set_room size (read_of text row_room place_room))
 
 -- the memory of the sets after reading: filled, or as before where the text was refused
 abbrev pub SetsAfter : Result Contents TableFault → (before after : List Set) → Type 0

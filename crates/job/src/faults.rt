@@ -4,6 +4,7 @@ ghost use Rattle.job.specs.declared.faults.JobFault.TheVariants.{Draft, Output, 
 
 use draft::faults::DraftFault;
 use fault::Fault;
+use fault::refusal::Refusal;
 use output::faults::OutputFault;
 use page::faults::PageFault;
 use table::faults::TableFault;
@@ -26,18 +27,13 @@ pub enum JobFault {
     Draft(DraftFault),
 }
 
-impl JobFault {
-    // Tells the refusal's letter, number, line and byte.
-    pub fn fault(&self) -> Fault
-        ensures { result ≡ fault_of self.now }
-    {
+impl Refusal for JobFault {
+    ghost tells = { fault_of };
+
+    // What the refusal tells; that of another layer is passed up whole.
+    fn fault(&self) -> Fault {
         match *self {
-            JobFault::SmallOutput => Fault {
-                letter: b'J',
-                number: 71,
-                line: 0,
-                byte: 0,
-            },
+            JobFault::SmallOutput => Fault::textless(b'J', 71),
             JobFault::Table(inner) => inner.fault(),
             JobFault::Output(inner) => inner.fault(),
             JobFault::Tray(inner) => inner.fault(),
@@ -47,6 +43,7 @@ impl JobFault {
     }
 }
 
+// Each `From` is by hand: a derived one would have no contract, and clauses name the refusal.
 impl From<TableFault> for JobFault {
     ghost from_gives = { λ e r. r ≡ Table e };
 

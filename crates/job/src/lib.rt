@@ -4,10 +4,10 @@
 
 mod answers;
 pub mod closed;
-mod closed_page;
-mod entry;
 pub mod faults;
+mod frame;
 mod part;
+mod reading;
 pub mod report;
 pub mod run;
 mod sheet;

@@ -1,17 +1,18 @@
-ghost use Rattle.std.specs.Prelude.{cond, ◌≡◌, ◌+◌, ◌^◌, ◌<◌, ◌≤◌, ltb, length, drop, IfErr, if◌then◌else◌};
+ghost use Rattle.std.specs.Prelude.{cond, ◌≡◌, ◌<◌, ◌≤◌, ◌^◌, length, drop, if◌then◌else◌, nat_lt};
 ghost use Rattle.job.specs.Closed.{SetsAfter};
-ghost use Rattle.job.specs.Jobs.{Put, RulesAfter, RulesReached, behind, closed_part, first_line, parts_of, read_parts, whole_job};
-ghost use Rattle.job.specs.Reports.{Lined, count_of, output_after};
-ghost use Rattle.operators.specs.TableClosure.{signals_of};
+ghost use Rattle.job.specs.Jobs.{Put, RulesAfter, RulesReached, behind, closed_page, common_in, first_line, parts_on, read_parts, rooms_of, whole_job};
+ghost use Rattle.job.specs.Reports.{count_of, min_output, output_after};
 ghost use Rattle.survey.specs.Fills.{Filled};
 ghost use Rattle.table.specs.Reading.{places_after, read_of, words_after};
-ghost use Rattle.theory.specs.Rows.{common};
+ghost use Rattle.view.specs.Shown.{signal_count};
 
 use crate::answers::write_answers;
 use crate::faults::JobFault;
+use crate::frame::{clear, settle};
 use crate::part::{write_closed, write_rules};
-use crate::report::{MIN_OUTPUT, refuse};
+use crate::reading::view_read;
 use operators::table_closure::TableClosure;
+use output::output::Output;
 use sets::rule::Rule;
 use sets::set::Set;
 use table::place::Place;
@@ -30,24 +31,20 @@ pub fn run(
     rules: &mut [Rule],
     out: &mut [u8],
 ) -> Result<usize, JobFault>
-    ensures answer { result ≡ count_of (whole_job (record { sets = length sets.entry.now; rules = length rules.old; size = length out.old }) text.now (length words.old) (length places.old)) }
-    ensures output { out.new ≡ output_after (length out.old) (whole_job (record { sets = length sets.entry.now; rules = length rules.old; size = length out.old }) text.now (length words.old) (length places.old)) }
-    ensures words { words.new ≡ (if ltb (length out.old) 32 then words.old else words_after (read_of text.now (length words.old) (length places.old)) words.old) }
-    ensures places { places.new ≡ (if ltb (length out.old) 32 then places.old else places_after (read_of text.now (length words.old) (length places.old)) places.old) }
-    ensures sets { cond (ltb (length out.old) 32) (sets.new ≡ sets.old) (SetsAfter (read_of text.now (length words.old) (length places.old)) sets.old sets.new) }
-    ensures rules { cond (ltb (length out.old) 32) (rules.new ≡ rules.old) (RulesAfter (record { sets = length sets.entry.now; rules = length rules.old; size = length out.old }) text.now (read_of text.now (length words.old) (length places.old)) rules.old rules.new) }
+    ensures answer { result ≡ count_of (whole_job (rooms_of sets.old rules.old out.old) text.now (length words.old) (length places.old)) }
+    ensures output { out.new ≡ output_after (length out.old) (whole_job (rooms_of sets.old rules.old out.old) text.now (length words.old) (length places.old)) }
+    ensures words { words.new ≡ (if nat_lt (length out.old) min_output then words.old else words_after (read_of text.now (length words.old) (length places.old)) words.old) }
+    ensures places { places.new ≡ (if nat_lt (length out.old) min_output then places.old else places_after (read_of text.now (length words.old) (length places.old)) places.old) }
+    ensures sets { cond (nat_lt (length out.old) min_output) (sets.new ≡ sets.old) (SetsAfter (read_of text.now (length words.old) (length places.old)) sets.old sets.new) }
+    ensures rules { cond (nat_lt (length out.old) min_output) (rules.new ≡ rules.old) (RulesAfter (rooms_of sets.old rules.old out.old) text.now (read_of text.now (length words.old) (length places.old)) rules.old rules.new) }
 {
-    out.fill(0);
-    if out.len() < MIN_OUTPUT {
-        return Err(JobFault::SmallOutput);
-    }
-    match write_job(text, words, places, sets, rules, out) {
-        Ok(count) => Ok(count),
-        Err(fault) => Err(refuse(out, fault)),
-    }
+    clear(out)?;
+    let answer = write_job(text, words, places, sets, rules, out);
+    settle(out, answer)
 }
 
 // Reads the table text, and puts the parts of the job at the front of the output.
+// The pieces of memory come one by one: a struct of them would be made and taken apart for this one call.
 fn write_job(
     text: &[u8],
     words: &mut [u64],
@@ -56,42 +53,38 @@ fn write_job(
     rules: &mut [Rule],
     out: &mut [u8],
 ) -> Result<usize, JobFault>
-    ensures answer { result ≡ behind 0 (read_parts (record { sets = length sets.entry.now; rules = length rules.old; size = length out.old }) text.now (read_of text.now (length words.old) (length places.old))) }
-    ensures output { Put 0 (read_parts (record { sets = length sets.entry.now; rules = length rules.old; size = length out.old }) text.now (read_of text.now (length words.old) (length places.old))) out.old out.new }
+    ensures answer { result ≡ behind 0 (read_parts (rooms_of sets.old rules.old out.old) text.now (read_of text.now (length words.old) (length places.old))) }
+    ensures output { Put 0 (read_parts (rooms_of sets.old rules.old out.old) text.now (read_of text.now (length words.old) (length places.old))) out.old out.new }
     ensures words { words.new ≡ words_after (read_of text.now (length words.old) (length places.old)) words.old }
     ensures places { places.new ≡ places_after (read_of text.now (length words.old) (length places.old)) places.old }
     ensures sets { SetsAfter (read_of text.now (length words.old) (length places.old)) sets.old sets.new }
-    ensures rules { RulesAfter (record { sets = length sets.entry.now; rules = length rules.old; size = length out.old }) text.now (read_of text.now (length words.old) (length places.old)) rules.old rules.new }
-    ensures lined { IfErr result (λ e. Lined e) }
+    ensures rules { RulesAfter (rooms_of sets.old rules.old out.old) text.now (read_of text.now (length words.old) (length places.old)) rules.old rules.new }
 {
     let reading = read(text, words, places)?;
-    let rows = reading.rows;
-    let names = rows + reading.signals;
-    let view = TableView::new(text, &words[0..rows], &places[0..names]);
-    write_parts(out, &view, sets, rules, text, reading.bytes)
+    let view = view_read(text, words, places, reading);
+    write_parts(out, &view, sets, rules, &text[reading.bytes..])
 }
 
-// Puts the parts of the job on a table at the front of the output; the queries stand in the text from position `taken` on.
+// Puts the parts of the job on a table and the queries behind it at the front of the output.
 fn write_parts(
     out: &mut [u8],
     view: &TableView,
     sets: &mut [Set],
     rules: &mut [Rule],
-    text: &[u8],
-    taken: usize,
+    queries: &[u8],
 ) -> Result<usize, JobFault>
-    requires inside { taken ≤ length text.now }
-    requires near { length text.now < 2 ^ 32 }
-    ensures answer { result ≡ behind 0 (parts_of (record { sets = length sets.entry.now; rules = length rules.old; size = length out.old }) view.now.text.now view.now.words.now view.now.places.now (drop taken text.now)) }
-    ensures output { Put 0 (parts_of (record { sets = length sets.entry.now; rules = length rules.old; size = length out.old }) view.now.text.now view.now.words.now view.now.places.now (drop taken text.now)) out.old out.new }
-    ensures sets { Filled (signals_of view.now.words.now view.now.places.now) (common (signals_of view.now.words.now view.now.places.now) view.now.words.now) sets.old sets.new }
-    ensures rules { RulesReached (signals_of view.now.words.now view.now.places.now) (common (signals_of view.now.words.now view.now.places.now) view.now.words.now) (closed_part view.now.text.now view.now.words.now view.now.places.now (length sets.old) 0 (length out.old)) rules.old rules.new }
-    ensures lined { IfErr result (λ e. Lined e) }
+    requires near { length queries.now < 2 ^ 32 }
+    ensures answer { result ≡ behind 0 (parts_on (rooms_of sets.old rules.old out.old) view.now queries.now) }
+    ensures output { Put 0 (parts_on (rooms_of sets.old rules.old out.old) view.now queries.now) out.old out.new }
+    ensures sets { Filled (signal_count view.now) (common_in view.now) sets.old sets.new }
+    ensures rules { RulesReached (signal_count view.now) (common_in view.now) (closed_page view.now (length sets.old) 0 (length out.old)) rules.old rules.new }
 {
     let closure = TableClosure::new(*view);
     let end = write_closed(out, 0, &closure, sets)?;
     let at = write_rules(out, end, &closure, rules)?;
-    write_answers(out, at, view, text, taken, first_query(view))
+    let mut rest = Output::new(out, at);
+    write_answers(&mut rest, view, queries, first_query(view))?;
+    Ok(rest.at())
 }
 
 // The number of the line behind the text of a table: its head, its names and its rows come before.

@@ -43,7 +43,8 @@ pass_front t m rules i x =
 
 -- a closure that brings no signal above the bit is the one found
 pub found_value :
-    (bit start closed : ℕ) (found : Option ℕ) → MatchOption found (Alike bit closed start → ⊥) (λ word. (word ≡ closed) × Alike bit word start) → Alike bit closed start
-    → unwrap_or found start ≡ closed
-found_value bit start closed None told alike = absurd (told alike)
-found_value bit start closed (Some word) told alike = told.0
+    (bit other start closed : ℕ) (found : Option ℕ) → other ≡ start
+    → MatchOption found (Alike bit closed start → ⊥) (λ word. (word ≡ closed) × Alike bit word start) → Alike bit closed start
+    → unwrap_or found other ≡ closed
+found_value bit other start closed None _ told alike = absurd (told alike)
+found_value bit other start closed (Some word) _ told alike = told.0

@@ -1,5 +1,5 @@
 pub mod Alike
-pub mod Bits
+pub mod WordBits
 pub mod ByColumns
 pub mod Counting
 pub mod Passes

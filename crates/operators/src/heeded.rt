@@ -10,9 +10,5 @@ pub const MAX_RULES: usize = 4096;
 pub(crate) fn first_rules(rules: &[Rule]) -> &[Rule]
     ensures first { result.now ≡ take max_rules rules.now }
 {
-    if rules.len() > MAX_RULES {
-        &rules[..MAX_RULES]
-    } else {
-        rules
-    }
+    &rules[..rules.len().min(MAX_RULES)]
 }

@@ -17,15 +17,10 @@ pub fn holds(view: &TableView, premise: Set, conclusion: Set) -> bool
 }
 
 // Whether each row that contains the premise contains the conclusion.
-fn rows_hold(rows: &[u64], premise: u64, conclusion: u64) -> bool
+pub fn rows_hold(rows: &[u64], premise: u64, conclusion: u64) -> bool
     ensures told { Decides result (Holds rows.now premise conclusion) }
 {
-    for row in rows {
-        if !row_holds(*row, premise, conclusion) {
-            return false;
-        }
-    }
-    true
+    rows.iter().all(|row| row_holds(*row, premise, conclusion))
 }
 
 // Whether the row lacks a signal of the premise, or contains the conclusion.

@@ -2,6 +2,8 @@
 
 #![tactic(auto)]
 
+mod bits;
+pub mod by_rules;
 mod columns;
 pub mod entails;
 pub mod heeded;

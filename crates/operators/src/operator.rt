@@ -41,10 +41,6 @@ pub trait Operator {
         ensures { Tried (span self.now) (means self.now) set bit result }
     {
         let closed = self.closure(set);
-        if are_alike(closed.word(), set.word(), bit) {
-            Some(closed)
-        } else {
-            None
-        }
+        are_alike(closed.word(), set.word(), bit).then_some(closed)
     }
 }

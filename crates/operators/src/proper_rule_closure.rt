@@ -1,103 +1,41 @@
-ghost use Rattle.std.specs.Prelude.{◌≡◌, ◌^◌, ◌<◌, ◌≤◌, take, Decides, MatchOption, ◌≢◌, bit_and};
-ghost use Rattle.operators.specs.Heeded.{heeded, of_width, of_width_within, max_rules};
+ghost use Rattle.std.specs.Prelude.{◌≡◌, Decides, MatchOption, bit_and};
+ghost use Rattle.operators.specs.Heeded.{heeded, of_width};
 ghost use Rattle.operators.specs.Trials.{Alike};
-ghost use Rattle.theory.specs.Rules.{LeastKeeping, close_s, pass, proper};
-ghost use Rattle.theory.specs.Words.{max_signals};
-ghost use Rattle.theory.proofs.Rules.{close_closure};
+ghost use Rattle.theory.specs.Rules.{close_s, pass, proper};
 
+use crate::by_rules::{ByRules, Firing};
 use crate::heeded::first_rules;
-use crate::operator::Operator;
-use crate::word::{are_alike, with_word};
+use crate::word::are_alike;
 use sets::rule::Rule;
 use sets::set::Set;
-use theory::MAX_SIGNALS;
 
-// The closure S over a list of rules: a rule applies only where its premise is a proper part of the set so far.
+// A rule applies only where its premise is a proper part of the set so far.
 #[derive(Clone, Copy)]
-pub struct ProperRuleClosure<'a> {
-    rules: &'a [Rule],
-    width: usize,
-    ghost narrow: { width ≤ max_signals },
-}
+pub struct WhereProper;
 
-impl<'a> ProperRuleClosure<'a> {
-    // The closure over the rules, of sets as wide as the one given.
-    pub fn new(rules: &'a [Rule], set: Set) -> Self
-        ensures rules { result.rules.now ≡ rules.now }
-        ensures width { result.width ≡ set.width }
-    {
-        ProperRuleClosure {
-            rules,
-            width: set.width(),
-        }
-    }
-}
+// The closure S over a list of rules.
+pub type ProperRuleClosure<'a> = ByRules<'a, WhereProper>;
 
-impl<'a> Operator for ProperRuleClosure<'a> {
+impl Firing for WhereProper {
     const LETTER: u8 = b'S';
 
-    ghost letter = { 83 };
+    ghost LETTER = { 83 };
 
-    ghost span = { λ s. s.width };
+    ghost trigger = { proper };
 
-    ghost means = { λ s. close_s s.width (heeded s.width s.rules.now) };
-
-    ghost closes = { λ s. close_closure proper s.width (heeded s.width s.rules.now) (of_width_within s.width (take max_rules s.rules.now)) s.narrow };
-
-    // The letter that pages over the operator carry.
-    fn mark(&self) -> u8 {
-        Self::LETTER
+    // The word of the closure by passes over the rules; the first rule that brings a signal above the bit breaks them off.
+    fn least(rules: &[Rule], set: Set, bit: usize) -> Option<u64> {
+        saturated(first_rules(rules), set, bit)
     }
-
-    // The number of signals of the sets that the operator closes.
-    fn width(&self) -> usize {
-        self.width
-    }
-
-    // The least set that contains the set and keeps every rule that counts; a set of another width is given back.
-    fn closure(&self, set: Set) -> Set
-        ensures width { result.width ≡ set.width }
-        ensures closed { set.width ≡ self.now.width
-            → result.word ≡ close_s self.now.width (heeded self.now.width self.now.rules.now) set.word }
-        ensures other { (set.width ≢ self.now.width) → result ≡ set }
-        ensures least { set.width ≡ self.now.width
-            → LeastKeeping proper set.width (heeded set.width self.now.rules.now) set.word result.word }
-    {
-        if set.width() != self.width {
-            return set;
-        }
-        with_word(
-            set,
-            closed_word(first_rules(self.rules), self.width, set.word()),
-        )
-    }
-
-    // The closure of a set, or none where it brings a signal above the bit: the first rule that brings one breaks the trial off.
-    fn trial(&self, set: Set, bit: usize) -> Option<Set> {
-        if set.width() != self.width {
-            return Some(set);
-        }
-        let word = saturated(first_rules(self.rules), self.width, set.word(), bit)?;
-        Some(with_word(set, word))
-    }
-}
-
-// The closure of a word: no signal is above all bits, so that the passes go on to the end.
-fn closed_word(rules: &[Rule], width: usize, start: u64) -> u64
-    requires below { start < 2 ^ width }
-    requires narrow { width ≤ max_signals }
-    ensures closed { result ≡ close_s width (of_width width rules.now) start }
-{
-    saturated(rules, width, start, MAX_SIGNALS).unwrap_or(start)
 }
 
 // The word after passes over the rules until one changes nothing; none as soon as one brings a signal above the bit.
-fn saturated(rules: &[Rule], width: usize, start: u64, bit: usize) -> Option<u64>
-    requires { start < 2 ^ width }
+fn saturated(rules: &[Rule], set: Set, bit: usize) -> Option<u64>
     ensures closed { MatchOption result
-        (Alike bit (close_s width (of_width width rules.now) start) start → ⊥)
-        (λ word. (word ≡ close_s width (of_width width rules.now) start) × Alike bit word start) }
+        (Alike bit (close_s set.width (of_width set.width rules.now) set.word) set.word → ⊥)
+        (λ word. (word ≡ close_s set.width (of_width set.width rules.now) set.word) × Alike bit word set.word) }
 {
+    let (width, start) = (set.width(), set.word());
     let mut word = start;
     loop {
         let next = one_pass(rules, width, word, bit)?;

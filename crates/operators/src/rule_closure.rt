@@ -1,83 +1,43 @@
-ghost use Rattle.std.specs.Prelude.{◌≡◌, ◌^◌, ◌<◌, ◌≤◌, length, take, ◌≢◌};
+ghost use Rattle.std.specs.Prelude.{◌≡◌, ◌≤◌, length, MatchOption};
 ghost use Rattle.operators.specs.Counting.{AllCounted, Follows};
-ghost use Rattle.operators.specs.Heeded.{heeded, of_width, of_width_within, max_rules};
-ghost use Rattle.theory.specs.Rules.{LeastKeeping, close_r, inside};
-ghost use Rattle.theory.specs.Words.{max_signals, Sub};
-ghost use Rattle.theory.proofs.Rules.{close_closure};
+ghost use Rattle.operators.specs.Heeded.{heeded, of_width, max_rules};
+ghost use Rattle.operators.specs.Trials.{Alike};
+ghost use Rattle.theory.specs.Rules.{close_r, inside};
+ghost use Rattle.theory.specs.Words.{Sub};
 
+use crate::by_rules::{ByRules, Firing};
 use crate::heeded::{MAX_RULES, first_rules};
-use crate::operator::Operator;
-use crate::word::with_word;
+use crate::word::are_alike;
 use sets::rule::Rule;
 use sets::set::Set;
 
-// The closure R over a list of rules: a rule applies where its premise lies inside the set so far.
+// A rule applies where its premise lies inside the set so far.
 #[derive(Clone, Copy)]
-pub struct RuleClosure<'a> {
-    rules: &'a [Rule],
-    width: usize,
-    ghost narrow: { width ≤ max_signals },
-}
+pub struct WhereInside;
 
-impl<'a> RuleClosure<'a> {
-    // The closure over the rules, of sets as wide as the one given.
-    pub fn new(rules: &'a [Rule], set: Set) -> Self
-        ensures rules { result.rules.now ≡ rules.now }
-        ensures width { result.width ≡ set.width }
-    {
-        RuleClosure {
-            rules,
-            width: set.width(),
-        }
-    }
-}
+// The closure R over a list of rules.
+pub type RuleClosure<'a> = ByRules<'a, WhereInside>;
 
-impl<'a> Operator for RuleClosure<'a> {
+impl Firing for WhereInside {
     const LETTER: u8 = b'R';
 
-    ghost letter = { 82 };
+    ghost LETTER = { 82 };
 
-    ghost span = { λ s. s.width };
+    ghost trigger = { inside };
 
-    ghost means = { λ s. close_r s.width (heeded s.width s.rules.now) };
-
-    ghost closes = { λ s. close_closure inside s.width (heeded s.width s.rules.now) (of_width_within s.width (take max_rules s.rules.now)) s.narrow };
-
-    // The letter that pages over the operator carry.
-    fn mark(&self) -> u8 {
-        Self::LETTER
-    }
-
-    // The number of signals of the sets that the operator closes.
-    fn width(&self) -> usize {
-        self.width
-    }
-
-    // The least set that contains the set and keeps every rule that counts; a set of another width is given back.
-    fn closure(&self, set: Set) -> Set
-        ensures width { result.width ≡ set.width }
-        ensures closed { set.width ≡ self.now.width
-            → result.word ≡ close_r self.now.width (heeded self.now.width self.now.rules.now) set.word }
-        ensures other { (set.width ≢ self.now.width) → result ≡ set }
-        ensures least { set.width ≡ self.now.width
-            → LeastKeeping inside set.width (heeded set.width self.now.rules.now) set.word result.word }
-    {
-        if set.width() != self.width {
-            return set;
-        }
-        with_word(
-            set,
-            linear_closure(first_rules(self.rules), self.width, set.word()),
-        )
+    // The word of the closure by LinClosure, or none where it brings a signal above the bit.
+    fn least(rules: &[Rule], set: Set, bit: usize) -> Option<u64> {
+        let word = linear_closure(first_rules(rules), set);
+        are_alike(word, set.word(), bit).then_some(word)
     }
 }
 
-// The closure of a word by LinClosure: each rule's missing premise signals are counted down, and at 0 its conclusion comes in.
-fn linear_closure(rules: &[Rule], width: usize, start: u64) -> u64
-    requires below { start < 2 ^ width }
+// The closure of a set by LinClosure: each rule's missing premise signals are counted down, and at 0 its conclusion comes in.
+fn linear_closure(rules: &[Rule], set: Set) -> u64
     requires few { length rules.now ≤ max_rules }
-    ensures closed { result ≡ close_r width (of_width width rules.now) start }
+    ensures closed { result ≡ close_r set.width (of_width set.width rules.now) set.word }
 {
+    let (width, start) = (set.width(), set.word());
     let mut missing = [0u8; MAX_RULES];
     let mut word = count_missing(rules, width, start, &mut missing);
     let mut done = start;
@@ -97,6 +57,7 @@ fn count_missing(rules: &[Rule], width: usize, start: u64, missing: &mut [u8]) -
     ensures follows { Follows width rules.now start result }
 {
     let mut word = start;
+    // By index: of counts that are lent to a zipped iterator nothing is known afterwards but their number.
     for (i, rule) in rules.iter().enumerate() {
         let premise = rule.premise();
         if premise.width() != width {
@@ -123,6 +84,7 @@ fn take_waiting(rules: &[Rule], width: usize, done: u64, word: u64, missing: &mu
 {
     let waiting = word ^ done;
     let mut grown = word;
+    // By index, as the counts are made.
     for (i, rule) in rules.iter().enumerate() {
         let premise = rule.premise();
         let found = (premise.word() & waiting).count_ones() as u8;

@@ -1,11 +1,11 @@
-ghost use Rattle.std.specs.Prelude.{◌≡◌, ◌^◌, ◌<◌, ◌≤◌, Decides, ◌≢◌};
-ghost use Rattle.operators.specs.Columns.{Turned};
-ghost use Rattle.operators.specs.TableClosure.{Shared, rows_close, signals_of};
+ghost use Rattle.std.specs.Prelude.{◌≡◌, ◌^◌, ◌<◌, ◌≤◌, Decides, IfSome, ◌≢◌};
+ghost use Rattle.operators.specs.TableClosure.{Shared, closure_in, rows_close};
 ghost use Rattle.theory.specs.Rows.{common};
 ghost use Rattle.theory.specs.Words.{max_signals};
+ghost use Rattle.view.specs.Shown.{signal_count};
+ghost use Rattle.std.proofs.Props.{props};
 
-use crate::columns::common::common_of_columns;
-use crate::columns::{COLUMN_WORDS, columns_of};
+use crate::columns::Columns;
 use crate::operator::Operator;
 use crate::word::{all_signals, with_word};
 use sets::set::Set;
@@ -14,13 +14,12 @@ use view::table_view::TableView;
 // A table is kept by columns where it has more than one row for this many signals; the rows of another are gone through.
 const SIGNALS_PER_ROW: usize = 4;
 
-// The closure G over the rows of a table: the signals common to all rows that contain a set; as many columns are kept as there are signals, or none.
+// The closure G over the rows of a table: the signals common to all rows that contain a set; a table of many rows is kept by columns too.
 #[derive(Clone, Copy)]
 pub struct TableClosure<'t, 'r, 'p> {
     view: TableView<'t, 'r, 'p>,
-    kept: usize,
-    columns: [u64; COLUMN_WORDS],
-    ghost turned: { Turned kept view.words.now columns },
+    columns: Option<Columns<'r>>,
+    ghost of_view: { IfSome columns (λ c. (c.rows.now ≡ view.words.now) × (c.width ≡ signal_count view)) } by { Prim.hlevel props },
 }
 
 impl<'t, 'r, 'p> TableClosure<'t, 'r, 'p> {
@@ -29,17 +28,8 @@ impl<'t, 'r, 'p> TableClosure<'t, 'r, 'p> {
         ensures view { result.view ≡ view.entry }
     {
         let (rows, width) = (view.words(), view.signals());
-        let kept = if rows.len() > width / SIGNALS_PER_ROW {
-            width
-        } else {
-            0
-        };
-        let columns = columns_of(rows, kept);
-        TableClosure {
-            view,
-            kept,
-            columns,
-        }
+        let columns = (rows.len() > width / SIGNALS_PER_ROW).then(|| Columns::new(rows, width));
+        TableClosure { view, columns }
     }
 
     // The table.
@@ -51,21 +41,19 @@ impl<'t, 'r, 'p> TableClosure<'t, 'r, 'p> {
 
     // Whether the set has as many signals as the table.
     fn spans(&self, set: Set) -> bool
-        ensures told { Decides result (set.width ≡ signals_of self.now.view.words.now self.now.view.places.now) }
+        ensures told { Decides result (set.width ≡ signal_count self.now.view) }
     {
         set.width() == self.view.signals()
     }
 
     // The word of the signals common to all rows that contain the wanted ones.
     fn common_word(&self, wanted: u64) -> u64
-        requires { wanted < 2 ^ signals_of self.now.view.words.now self.now.view.places.now }
-        ensures common { result ≡ common (signals_of self.now.view.words.now self.now.view.places.now) self.now.view.words.now wanted }
+        requires { wanted < 2 ^ signal_count self.now.view }
+        ensures common { result ≡ closure_in self.now.view wanted }
     {
-        let (rows, width) = (self.view.words(), self.view.signals());
-        if self.kept == width {
-            common_of_columns(rows, &self.columns, width, wanted)
-        } else {
-            common_signals(rows, width, wanted)
+        match &self.columns {
+            Some(columns) => columns.common(wanted),
+            None => common_signals(self.view.words(), self.view.signals(), wanted),
         }
     }
 }
@@ -75,9 +63,9 @@ impl<'t, 'r, 'p> Operator for TableClosure<'t, 'r, 'p> {
 
     ghost letter = { 71 };
 
-    ghost span = { λ s. signals_of s.view.words.now s.view.places.now };
+    ghost span = { λ s. signal_count s.view };
 
-    ghost means = { λ s. common (signals_of s.view.words.now s.view.places.now) s.view.words.now };
+    ghost means = { λ s. closure_in s.view };
 
     ghost closes = { λ s. rows_close s.view.text.now s.view.words.now s.view.places.now s.view.fit };
 
@@ -94,10 +82,10 @@ impl<'t, 'r, 'p> Operator for TableClosure<'t, 'r, 'p> {
     // The signals common to all rows that contain the set, all signals where no row does; a set of another width is given back.
     fn closure(&self, set: Set) -> Set
         ensures width { result.width ≡ set.width }
-        ensures closed { set.width ≡ signals_of self.now.view.words.now self.now.view.places.now
-            → result.word ≡ common (signals_of self.now.view.words.now self.now.view.places.now) self.now.view.words.now set.word }
-        ensures other { (set.width ≢ signals_of self.now.view.words.now self.now.view.places.now) → result ≡ set }
-        ensures signals { set.width ≡ signals_of self.now.view.words.now self.now.view.places.now
+        ensures closed { set.width ≡ signal_count self.now.view
+            → result.word ≡ closure_in self.now.view set.word }
+        ensures other { (set.width ≢ signal_count self.now.view) → result ≡ set }
+        ensures signals { set.width ≡ signal_count self.now.view
             → Shared set.width self.now.view.words.now set.word result.word }
     {
         if !self.spans(set) {
@@ -112,11 +100,8 @@ fn common_signals(rows: &[u64], width: usize, wanted: u64) -> u64
     requires { width ≤ max_signals }
     ensures common { result ≡ common width rows.now wanted }
 {
-    let mut word = all_signals(width);
-    for row in rows {
-        if wanted & row == wanted {
-            word &= row;
-        }
-    }
-    word
+    rows.iter()
+        .copied()
+        .filter(|row| wanted & *row == wanted)
+        .fold(all_signals(width), |word, row| word & row)
 }

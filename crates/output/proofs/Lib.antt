@@ -1,6 +1,8 @@
 pub mod Digits
+pub mod Growing
 pub mod Joins
 pub mod Puts
 pub mod Rooms
 pub mod Sequels
+pub mod Told
 pub mod Writing

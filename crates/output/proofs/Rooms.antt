@@ -12,7 +12,7 @@ leb_same a b c d yes-too no-too = by_order (cases_lt b a)
     by_order (inl lt) = lt-leb a b lt ∙ sym (lt-leb c d (no-too lt))
     by_order (inr le) = le-leb a b le ∙ sym (le-leb c d (yes-too le))
 
-length_record : (word ns : List ℕ) → length (record_line word ns) ≡ length word + (length (number_fields ns) + 1)
+pub length_record : (word ns : List ℕ) → length (record_line word ns) ≡ length word + (length (number_fields ns) + 1)
 length_record word ns = length-append word _ ∙ ap (λ n. length word + n) (length-append (number_fields ns) (10 ∷ []))
 
 -- what a loop over the numbers keeps: the fields left fit the room left exactly when the line fits

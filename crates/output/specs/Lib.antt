@@ -1,3 +1,4 @@
 pub mod Faults
+pub mod Outputs
 pub mod Puts
 pub mod Records

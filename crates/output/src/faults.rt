@@ -1,7 +1,7 @@
-ghost use Rattle.std.specs.Prelude.{◌≡◌};
 ghost use Rattle.output.specs.Faults.{fault_of};
 
 use fault::Fault;
+use fault::refusal::Refusal;
 
 // Why something is not put into the output.
 #[derive(Clone, Copy, PartialEq, Eq, Debug)]
@@ -10,18 +10,13 @@ pub enum OutputFault {
     Full,
 }
 
-impl OutputFault {
-    // Tells the refusal's letter and number; no text is concerned.
-    pub fn fault(&self) -> Fault
-        ensures told { result ≡ fault_of self.now }
-    {
-        match *self {
-            OutputFault::Full => Fault {
-                letter: b'P',
-                number: 51,
-                line: 0,
-                byte: 0,
-            },
+impl Refusal for OutputFault {
+    ghost tells = { fault_of };
+
+    // What the refusal tells.
+    fn fault(&self) -> Fault {
+        match self {
+            OutputFault::Full => Fault::textless(b'P', 51),
         }
     }
 }

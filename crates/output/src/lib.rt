@@ -4,5 +4,5 @@
 
 pub mod faults;
 pub mod number;
-pub mod put;
+pub mod output;
 pub mod record;

@@ -1,35 +1,48 @@
-ghost use Rattle.std.specs.Prelude.{◌≡◌, ◌+◌, ◌≤◌, ◌∷◌, length, Ok, decimal, nat_le};
-ghost use Rattle.output.specs.Puts.{put_answer_of, after_put, put_at};
-ghost use Rattle.output.specs.Records.{record_line, number_fields};
+ghost use Rattle.std.specs.Prelude.{◌≡◌, ◌+◌, ◌≤◌, ◌∷◌, length, decimal, nat_le};
+ghost use Rattle.output.specs.Outputs.{Puts};
+ghost use Rattle.output.specs.Records.{number_fields, record_line};
 
 use crate::faults::OutputFault;
-use crate::number::{digits, put_number};
-use crate::put::put;
+use crate::number::digits;
+use crate::output::Output;
 
-// Puts a line of a word and numbers, parted by commas, at position `at`, and answers the position behind it; where it does not fit, the output stays as before.
-pub fn put_record(
-    out: &mut [u8],
-    at: usize,
-    word: &[u8],
-    numbers: &[usize],
-) -> Result<usize, OutputFault>
-    ensures answer { result ≡ put_answer_of at (record_line word.now numbers.now) out.old }
-    ensures output { out.new ≡ after_put at (record_line word.now numbers.now) out.old }
-{
-    let Some(left) = out.len().checked_sub(at) else {
-        return Err(OutputFault::Full);
-    };
-    if !has_room(left, word, numbers) {
-        return Err(OutputFault::Full);
+impl Output<'_> {
+    // Puts a line of a word and numbers, parted by commas, behind what was put; where it does not fit, all stays as before.
+    pub fn put_record(&mut self, word: &[u8], numbers: &[usize]) -> Result<(), OutputFault>
+        ensures puts { Puts (record_line word.now numbers.now) self.old result self.new }
+    {
+        if !has_room(self.room(), word, numbers) {
+            return Err(OutputFault::Full);
+        }
+        self.put(word)?;
+        self.put_numbers(numbers)?;
+        self.put(b"\n")
     }
-    let at = put(out, at, word)?;
-    let at = put_numbers(out, at, numbers)?;
-    put(out, at, b"\n")
+
+    // Puts each number behind a comma.
+    fn put_numbers(&mut self, numbers: &[usize]) -> Result<(), OutputFault>
+        requires room { self.old.at + length (number_fields numbers.now) ≤ length self.old.bytes.now }
+        ensures puts { Puts (number_fields numbers.now) self.old result self.new }
+    {
+        for number in numbers {
+            self.put_field(*number)?;
+        }
+        Ok(())
+    }
+
+    // Puts a comma and a number.
+    fn put_field(&mut self, number: usize) -> Result<(), OutputFault>
+        requires room { self.old.at + length (44 ∷ decimal number) ≤ length self.old.bytes.now }
+        ensures puts { Puts (44 ∷ decimal number) self.old result self.new }
+    {
+        self.put(b",")?;
+        self.put_number(number)
+    }
 }
 
 // Tells whether `left` bytes are enough for a line of a word and numbers.
 fn has_room(left: usize, word: &[u8], numbers: &[usize]) -> bool
-    ensures { result ≡ nat_le (length (record_line word.now numbers.now)) left }
+    ensures answer { result ≡ nat_le (length (record_line word.now numbers.now)) left }
 {
     if left <= word.len() {
         return false;
@@ -43,27 +56,4 @@ fn has_room(left: usize, word: &[u8], numbers: &[usize]) -> bool
         room -= bytes;
     }
     true
-}
-
-// Puts each number behind a comma.
-fn put_numbers(out: &mut [u8], start: usize, numbers: &[usize]) -> Result<usize, OutputFault>
-    requires { start + length (number_fields numbers.now) ≤ length out.old }
-    ensures answer { result ≡ Ok (start + length (number_fields numbers.now)) }
-    ensures output { out.new ≡ put_at start (number_fields numbers.now) out.old }
-{
-    let mut at = start;
-    for number in numbers {
-        at = put_field(out, at, *number)?;
-    }
-    Ok(at)
-}
-
-// Puts a comma and a number.
-fn put_field(out: &mut [u8], at: usize, number: usize) -> Result<usize, OutputFault>
-    requires { at + length (44 ∷ decimal number) ≤ length out.old }
-    ensures answer { result ≡ Ok (at + length (44 ∷ decimal number)) }
-    ensures output { out.new ≡ put_at at (44 ∷ decimal number) out.old }
-{
-    let end = put(out, at, b",")?;
-    put_number(out, end, number)
 }

@@ -1,8 +1,8 @@
-pub mod Chosen
+pub mod NameLists
+pub mod Entries
 pub mod Feet
-pub mod Fronts
 pub mod LineOutcomes
-pub mod Outcomes
+pub mod Ones
 pub mod Pieces
 pub mod RuleLines
 pub mod SetLines

@@ -1,14 +1,34 @@
 -- What a page and its output hold after a line was granted or refused.
-use Rattle.std.proofs.Common.{◌≡◌, ℕ, ◌+◌, ◌≤◌, Bool, true, false, ◌&&◌, ltb, leb, List, length, Ok, Err, Result, sym, ap, ◌∙◌, arith}
-use Rattle.std.proofs.lemmas.Bool.{and_from, and_left, and_parts, and_right, cond-false, cond-true, leb-true}
+use Rattle.std.proofs.Common.{◌≡◌, ℕ, ◌+◌, ◌-◌, ◌^◌, ◌<◌, ◌≤◌, Bool, true, false, cond, ◌&&◌, ltb, List, length, Ok, Err, Result, sym, refl, ap, ap₂, ◌∙◌, arith}
+use Rattle.std.proofs.lemmas.Bool.{and_from, cond-false, cond-true, leb-true, lt-leb, and_parts}
 use Rattle.output.specs.declared.faults.OutputFault.TheVariants.{Full}
+use Rattle.output.specs.declared.output.Output.{Output}
 use Rattle.output.specs.Puts.{put_at}
+use Rattle.page.specs.Lines.{PutsLine, fits_leaving, goes}
 use Rattle.output.proofs.Puts.{length_put_at}
 use Rattle.page.specs.declared.faults.PageFault.{PageFault}
 use Rattle.page.specs.declared.faults.PageFault.TheVariants as fault
 use Rattle.page.specs.declared.page.Page.{Page}
-use Rattle.page.specs.Pages.{Line, at_with, line_answer, lines_with, max_lines, output_with, reserve, takes, takes_line}
+use Rattle.page.specs.Pages.{Line, at_with, fits_before, line_answer, lines_with, max_lines, output_with, reserve, takes, takes_line}
 use Rattle.sets.specs.declared.faults.SetFault.TheVariants.{OtherWidth}
+
+-- the answer of a line, by the tests of its width and its room
+abbrev told : (same fits : Bool) → Result Unit PageFault
+told same fits = cond same (cond fits (Ok tt) (Err (fault.Output Full))) (Err (fault.Set OtherWidth))
+
+refused_for : (same fits : Bool) (f : PageFault) → Err f ≡ told same fits → (same && fits) ≡ false
+refused_for true true f e = absurd (let z : ◌≡◌ {A = ℕ} 0 1 = cc in omega arith)
+refused_for true false f e = refl
+refused_for false fits f e = refl
+
+granted_for : (same fits : Bool) → Ok tt ≡ told same fits → (same ≡ true) × (fits ≡ true)
+granted_for true true e = (refl, refl)
+granted_for true false e = absurd (let z : ◌≡◌ {A = ℕ} 0 1 = cc in omega arith)
+granted_for false fits e = absurd (let z : ◌≡◌ {A = ℕ} 0 1 = cc in omega arith)
+
+-- the bytes of the foot are left behind a line that was put
+room_left : (at end : ℕ) (bytes out later : List ℕ) → at + length bytes + reserve ≤ length out → end ≡ at + length bytes → later ≡ put_at at bytes out → end + reserve ≤ length later
+room_left at end bytes out later fits behind put = omega (arith, ap length put, length_put_at at bytes out (omega arith))
 
 module _ (page : Page) (line : Line) (out : List ℕ) where
   pub record Outcome (r : Result Unit PageFault) (later : List ℕ) (at lines : ℕ) : Type 0 where
@@ -18,38 +38,43 @@ module _ (page : Page) (line : Line) (out : List ℕ) where
     pub number : lines ≡ lines_with page line out
     pub reserved : page.at + reserve ≤ length out → at + reserve ≤ length later
 
-  refused : (r : Result Unit PageFault) → r ≡ line_answer page line out → takes page line out ≡ false → Outcome r out page.at page.lines
-  refused r e not = record { answer = e; output = sym (cond-false _ _ _ not); behind = sym (cond-false _ _ _ not); number = sym (cond-false _ _ _ not); reserved = λ h. h }
+  -- the line is put, and the bytes of the foot are kept free, or all where the page takes no more lines
+  module _ (some : 0 < length line.bytes) (kept : ℕ) (is : kept ≡ cond (ltb page.lines max_lines) reserve (2 ^ 64 - 1)) (small : length out < 2 ^ 64) where
+    fits : fits_leaving kept page.at (length line.bytes) (length out) ≡ takes_line page line.bytes out
+    fits = ap (λ k. fits_leaving k page.at (length line.bytes) (length out)) is ∙ by_lines (ltb page.lines max_lines)
+      where
+        by_lines : (free : Bool) → fits_leaving (cond free reserve (2 ^ 64 - 1)) page.at (length line.bytes) (length out) ≡ (free && fits_before page.at line.bytes out)
+        by_lines true = refl
+        by_lines false = lt-leb _ _ (omega arith)
 
-  pub other_width : line.same_width ≡ false → Outcome (Err (fault.Set OtherWidth)) out page.at page.lines
-  other_width unlike = refused (Err (fault.Set OtherWidth)) (sym (cond-false _ _ _ unlike)) (and_left _ _ unlike)
+    module _ (before after : Output) (at : before.at ≡ page.at) (bytes : before.bytes.now ≡ out) (r : Result Unit PageFault) (puts : PutsLine line kept before r after) where
+      fits_here : fits_leaving kept before.at (length line.bytes) (length before.bytes.now) ≡ takes_line page line.bytes out
+      fits_here = ap₂ (λ a o. fits_leaving kept a (length line.bytes) (length o)) at bytes ∙ fits
 
-  -- `free` is what the code has for the test of the room
-  module _ (same : line.same_width ≡ true) (bytes : ℕ) (long : bytes ≡ length line.bytes) (free : Bool) (is : free ≡ (ltb page.lines max_lines && leb (page.at + bytes + reserve) (length out))) where
-    free_is : free ≡ takes_line page line.bytes out
-    free_is = is ∙ ap (λ n. ltb page.lines max_lines && leb (page.at + n + reserve) (length out)) long
+      told_here : r ≡ told line.same_width (takes_line page line.bytes out)
+      told_here = puts.answer ∙ ap (told line.same_width) fits_here
 
-    pub no_room : free ≡ false → Outcome (Err (fault.Output Full)) out page.at page.lines
-    no_room not =
-        let full = sym free_is ∙ not in
-        refused (Err (fault.Output Full)) (sym (cond-true _ _ _ same ∙ cond-false _ _ _ full)) (and_right _ _ full)
+      goes_here : goes line kept before ≡ takes page line out
+      goes_here = ap (λ b. line.same_width && b) fits_here
 
-    -- `written` is what the code has for the bytes
-    module _ (granted : free ≡ true) (written : List ℕ) (whole : written ≡ line.bytes) where
-      fits : page.at + length line.bytes + reserve ≤ length out
-      fits = leb-true _ _ (and_parts _ _ (sym free_is ∙ granted)).1
+      whole : after.bytes.now ≡ output_with page line out
+      whole = puts.whole ∙ ap (λ b. cond b (put_at before.at line.bytes before.bytes.now) before.bytes.now) goes_here ∙ ap₂ (λ a o. cond (takes page line out) (put_at a line.bytes o) o) at bytes
 
-      pub line_room : page.at + length written ≤ length out
-      line_room = omega (arith, fits, ap length whole)
+      pub line_refused : (f : PageFault) → Err f ≡ r → Outcome r after.bytes.now page.at page.lines
+      line_refused f e =
+          let not = refused_for line.same_width (takes_line page line.bytes out) f (e ∙ told_here) in
+          let same : after.bytes.now ≡ out = whole ∙ cond-false _ _ _ not in
+          record { answer = told_here; output = whole; behind = sym (cond-false _ _ _ not); number = sym (cond-false _ _ _ not); reserved = λ h. omega (arith, ap length same) }
 
-      pub taken : (later : List ℕ) (at : ℕ) → later ≡ put_at page.at written out → at ≡ page.at + length written → Outcome (Ok tt) later at (page.lines + 1)
-      taken later at put behind =
-          let room = sym free_is ∙ granted in
-          let yes : takes page line out ≡ true = and_from _ _ same room in
+      pub line_granted : Ok tt ≡ r → Outcome r after.bytes.now after.at (page.lines + 1)
+      line_granted e =
+          let yes = granted_for line.same_width (takes_line page line.bytes out) (e ∙ told_here) in
+          let taken : takes page line out ≡ true = and_from _ _ yes.0 yes.1 in
+          let end : after.at ≡ page.at + length line.bytes = puts.at ∙ cond-true _ _ _ (goes_here ∙ taken) ∙ ap (λ a. a + length line.bytes) at in
           record {
-            answer = sym (cond-true _ _ _ same ∙ cond-true _ _ _ room);
-            output = put ∙ ap (λ bs. put_at page.at bs out) whole ∙ sym (cond-true _ _ _ yes);
-            behind = behind ∙ ap (λ bs. page.at + length bs) whole ∙ sym (cond-true _ _ _ yes);
-            number = sym (cond-true _ _ _ yes);
-            reserved = λ h. omega (arith, behind, fits, ap length whole, ap length put, length_put_at page.at written out line_room);
+            answer = told_here;
+            output = whole;
+            behind = end ∙ sym (cond-true _ _ _ taken);
+            number = sym (cond-true _ _ _ taken);
+            reserved = λ h. room_left page.at after.at line.bytes out after.bytes.now (leb-true _ _ (and_parts _ _ yes.1).1) end (whole ∙ cond-true _ _ _ taken);
           }

@@ -1,7 +1,8 @@
 -- The bytes of the lines of rules, as the code has them.
-use Rattle.std.proofs.Common.{◌≡◌, ℕ, ◌+◌, ◌-◌, ◌/◌, ◌%◌, ◌^◌, ◌<◌, ◌≤◌, Bool, ◌&&◌, cond, eqb, List, [], ◌∷◌, length, decimal, sym, refl, ap, ◌∙◌, arith, length-append}
+use Rattle.std.proofs.Common.{◌≡◌, ℕ, ◌+◌, ◌-◌, ◌/◌, ◌%◌, ◌^◌, ◌<◌, ◌≤◌, Bool, true, ◌&&◌, cond, eqb, List, [], ◌∷◌, length, sym, refl, ap, ◌∙◌, arith, length-append}
 use lib.Bits.{bit_and, bit_xor, xor_add_and, xor_lt, xor_shr}
-use Rattle.page.specs.Pages.{added, chosen, chosen_from, name_fields, names_from, rule_line_of, rule_names_line}
+use Rattle.std.proofs.lemmas.Bool.{eqb-true}
+use Rattle.page.specs.Pages.{added, chosen, chosen_from, counted_names, names_from, rule_line_of, rule_names_line}
 use Rattle.sets.specs.declared.rule.Rule.{Rule}
 use Rattle.sets.specs.declared.set.Set.{Set}
 use Rattle.sets.specs.Set.{Fit}
@@ -15,15 +16,8 @@ chosen_by m word test i (name ∷ names) same =
     ap (λ xs. cond (eqb (bit_of m i word) 1) (name ∷ xs) xs) (chosen_by m word test (i + 1) names same) ∙ ap (λ b. cond b (name ∷ names_from test (i + 1) names) (names_from test (i + 1) names)) (same i)
 
 -- the line's length, from the lengths of its parts
-length_rule : (premise more : List (List ℕ)) → length (rule_names_line premise more) ≡ 7 + length (decimal (length premise)) + length (name_fields premise) + length (decimal (length more)) + length (name_fields more)
-length_rule premise more = simp length-append (omega arith)
-
-pub rule_long : (premise more : List (List ℕ)) (a b count extra fields others : ℕ) → count ≡ length premise → extra ≡ length more → fields ≡ length (name_fields premise) → others ≡ length (name_fields more)
-    → a ≡ length (decimal count) → b ≡ length (decimal extra) → 7 + a + fields + b + others ≡ length (rule_names_line premise more)
-rule_long premise more a b count extra fields others ec ee ef eo ea eb =
-    let first : length (decimal count) ≡ length (decimal (length premise)) = ap (λ n. length (decimal n)) ec in
-    let second : length (decimal extra) ≡ length (decimal (length more)) = ap (λ n. length (decimal n)) ee in
-    omega (arith, length_rule premise more)
+pub rule_long : (premise more : List (List ℕ)) → length (rule_names_line premise more) ≡ 5 + length (counted_names premise) + length (counted_names more)
+rule_long premise more = simp length-append (omega arith)
 
 -- where one bit is at most the other, they differ where the one is 0 and the other 1
 bits_differ : (x y z : ℕ) → x < 2 → y ≤ x → z ≡ (x + y) % 2 → eqb z 1 ≡ (eqb x 1 && eqb y 0)
@@ -53,9 +47,19 @@ module _ (rule : Rule) where
         ap (λ m. chosen m more.word names) wide ∙ ap (λ w. chosen rule.premise.width w names) is
         ∙ chosen_by rule.premise.width (bit_xor rule.conclusion.word rule.premise.word) _ 0 names (λ i. added_bit rule.premise.width rule.premise.word rule.conclusion.word i rule.inside)
 
-    pub rule_bytes : (names : List (List ℕ)) (premise : Set) → premise ≡ rule.premise → premise.width ≡ length names
-        → rule_names_line (chosen premise.width premise.word names) (chosen more.width more.word names) ≡ rule_line_of names rule.premise.word rule.conclusion.word
-    rule_bytes names premise e same =
-        ap (λ s. rule_names_line (chosen s.width s.word names) (chosen more.width more.word names)) e
-        ∙ ap (rule_names_line (chosen rule.premise.width rule.premise.word names)) (added_names names)
-        ∙ ap (λ m. rule_names_line (chosen m rule.premise.word names) (added m rule.premise.word rule.conclusion.word names)) (sym (ap (λ s. s.width) e) ∙ same)
+    -- the line as the code puts it
+    module _ (names : List (List ℕ)) (premise : Set) (is_premise : premise ≡ rule.premise) (same : eqb premise.width (length names) ≡ true) where
+      abbrev pub first : List (List ℕ)
+      first = chosen premise.width premise.word names
+
+      abbrev pub second : List (List ℕ)
+      second = chosen more.width more.word names
+
+      pub rule_width : eqb rule.premise.width (length names) ≡ true
+      rule_width = ap (λ s. eqb s.width (length names)) (sym is_premise) ∙ same
+
+      pub rule_bytes : rule_names_line first second ≡ rule_line_of names rule.premise.word rule.conclusion.word
+      rule_bytes =
+          ap (λ s. rule_names_line (chosen s.width s.word names) second) is_premise
+          ∙ ap (rule_names_line (chosen rule.premise.width rule.premise.word names)) (added_names names)
+          ∙ ap (λ m. rule_names_line (chosen m rule.premise.word names) (added m rule.premise.word rule.conclusion.word names)) (eqb-true _ _ rule_width)

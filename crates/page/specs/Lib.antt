@@ -1,2 +1,5 @@
 pub mod Faults
+pub mod Limits
+pub mod Lines
+pub mod Names
 pub mod Pages

@@ -5,12 +5,14 @@
 --   letter   what tells the operator that a page is over
 --   chosen   the names of the signals that belong to a set, in the order of the signals
 --   added    the names of the signals that a rule adds to its premise, in the order of the signals
-use Rattle.std.specs.Prelude.{◌≡◌, ℕ, ◌+◌, Bool, true, false, cond, ◌&&◌, List, [], ◌∷◌, ◌++◌, length, Ok, Err, codes, decimal, Result, MatchResult, ◌==◌, nat_le, nat_lt}
+use Rattle.std.proofs.Common.{arith}
+use Rattle.std.specs.Prelude.{◌≡◌, ℕ, ◌+◌, ◌<◌, Bool, true, false, cond, ◌&&◌, List, [], ◌∷◌, ◌++◌, length, Ok, Err, codes, decimal, Result, MatchResult, ◌==◌, nat_le, nat_lt}
 use Rattle.std.specs.List.{flat_map}
 use Rattle.output.specs.declared.faults.OutputFault.{OutputFault}
 use Rattle.output.specs.declared.faults.OutputFault.TheVariants.{Full}
 use Rattle.output.specs.Puts.{put_at}
 use Rattle.output.specs.Records.{number_fields, record_line}
+pub use Rattle.page.specs.Limits.{max_lines, reserve}
 use Rattle.page.specs.declared.faults.PageFault.{PageFault}
 use Rattle.page.specs.declared.faults.PageFault.TheVariants as fault
 use Rattle.page.specs.declared.page.Page.{Page}
@@ -20,14 +22,6 @@ use Rattle.sets.specs.declared.set.Set.{Set}
 use Rattle.table.specs.declared.place.Place.{Place}
 use Rattle.theory.specs.Words.{bit_of}
 use Rattle.view.specs.Views.{table_of}
-
--- the bytes behind a begun page that are set aside for its foot
-abbrev pub reserve : ℕ
-reserve = 9
-
--- the most lines of a page, besides head and foot
-abbrev pub max_lines : ℕ
-max_lines = 4096
 
 -- the head of a page of closed sets: the operator's letter and the number of signals
 abbrev pub closed_head : (letter m : ℕ) → List ℕ
@@ -104,27 +98,6 @@ Begun at head out r =
 abbrev pub takes_line : Page → (line out : List ℕ) → Bool
 takes_line page line out = nat_lt page.lines max_lines && fits_before page.at line out
 
--- the page takes the line of a set, which is one of as many signals as there are names
-abbrev pub takes_set : (names : List (List ℕ)) → Page → (place : ℕ) → Set → (out : List ℕ) → Bool
-takes_set names page place set out = set.width == length names && takes_line page (set_line_of names set.word place) out
-
--- what is answered: a set of another width is refused first
-abbrev pub set_answer : (names : List (List ℕ)) → Page → (place : ℕ) → Set → (out : List ℕ) → Result Unit PageFault
-set_answer names page place set out =
-    cond (set.width == length names) (cond (takes_line page (set_line_of names set.word place) out) (Ok tt) (Err (fault.Output Full))) (Err (fault.Set OtherWidth))
-
--- the output afterwards: as before where the set is refused
-abbrev pub output_after : (names : List (List ℕ)) → Page → (place : ℕ) → Set → (out : List ℕ) → List ℕ
-output_after names page place set out = cond (takes_set names page place set out) (put_at page.at (set_line_of names set.word place) out) out
-
--- the position behind the page afterwards
-abbrev pub at_after : (names : List (List ℕ)) → Page → (place : ℕ) → Set → (out : List ℕ) → ℕ
-at_after names page place set out = cond (takes_set names page place set out) (page.at + length (set_line_of names set.word place)) page.at
-
--- the number of lines afterwards
-abbrev pub lines_after : (names : List (List ℕ)) → Page → (place : ℕ) → Set → (out : List ℕ) → ℕ
-lines_after names page place set out = cond (takes_set names page place set out) (page.lines + 1) page.lines
-
 -- a line that a page is asked to take: whether what it shows is of as many signals as there are names, and its bytes
 pub record Line : Type 0 where
   pub same_width : Bool
@@ -137,6 +110,21 @@ line_of_set names place set = record { same_width = (set.width == length names);
 -- the line of a rule
 abbrev pub line_of_rule : (names : List (List ℕ)) → Rule → Line
 line_of_rule names rule = record { same_width = (rule.premise.width == length names); bytes = rule_line_of names rule.premise.word rule.conclusion.word }
+
+-- a set, as the closed page shows it
+abbrev pub shown_set : Set → (names : List (List ℕ)) → (place : ℕ) → Line
+shown_set set names place = line_of_set names place set
+
+-- a rule, as the rules page shows it
+abbrev pub shown_rule : Rule → (names : List (List ℕ)) → (place : ℕ) → Line
+shown_rule rule names place = line_of_rule names rule
+
+-- neither line is empty
+pub set_line_some : (set : Set) (names : List (List ℕ)) (place : ℕ) → 0 < length (shown_set set names place).bytes
+set_line_some set names place = omega arith
+
+pub rule_line_some : (rule : Rule) (names : List (List ℕ)) (place : ℕ) → 0 < length (shown_rule rule names place).bytes
+rule_line_some rule names place = omega arith
 
 -- the page takes the line, and what it shows is of the right width
 abbrev pub takes : Page → Line → (out : List ℕ) → Bool

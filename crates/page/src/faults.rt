@@ -3,6 +3,7 @@ ghost use Rattle.page.specs.declared.faults.PageFault.TheVariants.{Set, Output};
 ghost use Rattle.page.specs.Faults.{fault_of};
 
 use fault::Fault;
+use fault::refusal::Refusal;
 use output::faults::OutputFault;
 use sets::faults::SetFault;
 
@@ -15,17 +16,19 @@ pub enum PageFault {
     Output(OutputFault),
 }
 
-impl PageFault {
-    // What the refusal tells.
-    pub fn fault(&self) -> Fault
-        ensures told { result ≡ fault_of self.now }
-    {
+impl Refusal for PageFault {
+    ghost tells = { fault_of };
+
+    // What the refusal tells: a refusal is passed up whole.
+    fn fault(&self) -> Fault {
         match self {
             PageFault::Set(inner) => inner.fault(),
             PageFault::Output(inner) => inner.fault(),
         }
     }
 }
+
+// Each `From` is by hand: a derived one would have no contract, and clauses name the refusal.
 
 // A refusal of a set, as a page tells it.
 impl From<SetFault> for PageFault {

@@ -2,8 +2,9 @@
 
 #![tactic(auto)]
 
+mod chosen;
+pub mod entry;
 pub mod faults;
-mod lines;
 pub mod page;
 #[cfg(test)]
 mod tests;

@@ -1,8 +1,8 @@
 ghost use Rattle.std.specs.Prelude.{◌≤◌};
+ghost use Rattle.page.specs.Limits.{max_lines};
 
 mod calls;
-mod closed;
-mod rules;
+mod heads;
 
 // The bytes behind a begun page that are set aside for its foot.
 pub const FOOT_BYTES: usize = 9;
@@ -14,5 +14,5 @@ pub const MAX_LINES: usize = 4096;
 pub struct Page {
     at: usize,
     lines: usize,
-    ghost few: { lines ≤ 4096 },
+    ghost few: { lines ≤ max_lines },
 }

@@ -14,6 +14,7 @@ use table::place::Place;
 use view::table_view::TableView;
 
 // The operator of two signals for which every set is closed.
+// The tests of surveys have the same: to share it, a crate would have to hand it out.
 #[derive(Clone, Copy)]
 struct Every;
 
@@ -65,7 +66,7 @@ fn fits_to_the_last_byte(rt: HostRuntime) -> Result<(), Fail> {
     let view = TableView::new(b"pq", &[], &PLACES);
     let both = Set::new(2, 3)?;
     let mut page = Page::begin_closed(&mut out, 0, &Every, &view)?;
-    let line = page.set_line(&mut out, &view, 1, both);
+    let line = page.line(&mut out, &view, 1, &both);
     let end = page.foot(&mut out);
     assert_eq!(rt; line, Ok(()));
     assert_eq!(rt; end, Ok(29));
@@ -80,8 +81,8 @@ fn refuses_a_line_for_one_byte(rt: HostRuntime) -> Result<(), Fail> {
     let both = Set::new(2, 3)?;
     let wide = Set::new(3, 3)?;
     let mut page = Page::begin_closed(&mut out, 0, &Every, &view)?;
-    let line = page.set_line(&mut out, &view, 1, both);
-    let other = page.set_line(&mut out, &view, 1, wide);
+    let line = page.line(&mut out, &view, 1, &both);
+    let other = page.line(&mut out, &view, 1, &wide);
     let end = page.foot(&mut out);
     assert_eq!(rt; line, Err(PageFault::Output(OutputFault::Full)));
     assert_eq!(rt; other, Err(PageFault::Set(SetFault::OtherWidth)));
@@ -98,9 +99,9 @@ fn puts_rules_to_the_last_byte(rt: HostRuntime) -> Result<(), Fail> {
     let second = Rule::new(Set::new(2, 0)?, Set::new(2, 2)?)?;
     let third = Rule::new(Set::new(2, 2)?, Set::new(2, 2)?)?;
     let mut page = Page::begin_rules(&mut out, 0, &view)?;
-    let one = page.rule_line(&mut out, &view, first);
-    let two = page.rule_line(&mut out, &view, second);
-    let three = page.rule_line(&mut out, &view, third);
+    let one = page.line(&mut out, &view, 0, &first);
+    let two = page.line(&mut out, &view, 0, &second);
+    let three = page.line(&mut out, &view, 0, &third);
     let end = page.foot(&mut out);
     assert_eq!(rt; one, Ok(()));
     assert_eq!(rt; two, Ok(()));
@@ -117,8 +118,8 @@ fn refuses_a_rule_for_one_byte(rt: HostRuntime) -> Result<(), Fail> {
     let rule = Rule::new(Set::new(2, 1)?, Set::new(2, 3)?)?;
     let wide = Rule::new(Set::new(3, 1)?, Set::new(3, 3)?)?;
     let mut page = Page::begin_rules(&mut out, 0, &view)?;
-    let line = page.rule_line(&mut out, &view, rule);
-    let other = page.rule_line(&mut out, &view, wide);
+    let line = page.line(&mut out, &view, 0, &rule);
+    let other = page.line(&mut out, &view, 0, &wide);
     let end = page.foot(&mut out);
     assert_eq!(rt; line, Err(PageFault::Output(OutputFault::Full)));
     assert_eq!(rt; other, Err(PageFault::Set(SetFault::OtherWidth)));

@@ -1,5 +1,5 @@
 -- The test of the rows decides whether the implication holds in them.
-use Rattle.std.proofs.Common.{◌≡◌, ℕ, true, false, not, ◌⊎◌, List, [], ◌∷◌, sym, refl, ◌∙◌, subst, inl, inr}
+use Rattle.std.proofs.Common.{◌≡◌, ℕ, Bool, Decides, true, false, not, ◌⊎◌, List, [], ◌∷◌, sym, refl, ◌∙◌, subst, inl, inr}
 use mathlib.Core.List.Memᴰ
 use mathlib.Core.List.{Memᴰ}
 use lib.Bits.{bit_and}
@@ -40,3 +40,12 @@ holds_tested (row ∷ rows) p q h = at (cases_Bool (breaks row p q)) (holds_test
         let in_row = sub_contains row q (h row (Memᴰ.head refl) (contains_sub row p parts.0)) in
         absurd (true≢false (sym in_row ∙ not-true _ parts.1))
     at (inr b) e = cond-false _ _ _ b ∙ e
+
+-- so whatever decides whether it holds answers as the test does
+pub held : (rows : List ℕ) (p q : ℕ) (r : Bool) → Decides r (Holds rows p q) → r ≡ holds_in_rows rows p q
+held rows p q true told = sym (holds_tested rows p q (told.0 refl))
+held rows p q false told = at (cases_Bool (holds_in_rows rows p q))
+  where
+    at : (holds_in_rows rows p q ≡ true) ⊎ (holds_in_rows rows p q ≡ false) → false ≡ holds_in_rows rows p q
+    at (inl t) = absurd (true≢false (sym (told.1 (tested_holds rows p q t))))
+    at (inr f) = sym f

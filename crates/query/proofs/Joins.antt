@@ -1,11 +1,9 @@
 -- The names of a line, one by one.
-use Rattle.std.proofs.Common.{◌≡◌, ℕ, ◌-◌, ◌*◌, ◌%◌, ◌^◌, ◌≤◌, List, ◌∷◌, length, Ok, Err, sym, ap, ◌∙◌, arith}
-use lib.Bits.{bit_or}
-use Rattle.query.specs.declared.faults.QueryFault.{QueryFault}
+use Rattle.std.proofs.Common.{◌≡◌, ℕ, ◌-◌, ◌*◌, ◌%◌, ◌^◌, ◌≤◌, List, length, Ok, Err, sym, ap, ◌∙◌, arith}
 use Rattle.query.specs.declared.faults.QueryFault.TheVariants.{NoName}
 use Rattle.query.specs.Fields.{Field}
 use Rattle.query.specs.Meaning.{Means, Unmeant}
-use Rattle.query.specs.Names.{and_then, name_word_of, with_names, found_word}
+use Rattle.query.specs.Names.{name_word_of, found_word}
 use Rattle.query.proofs.Meant.{meant_found, unmeant_none}
 use Rattle.view.proofs.Narrow.{bit_beyond}
 
@@ -18,10 +16,3 @@ word_found names line f m i is few means =
 -- no signal was found
 pub word_missing : (names : List (List ℕ)) (line : ℕ) (f : Field) → Unmeant names f.bytes → Err (NoName line f.byte) ≡ name_word_of names line f
 word_missing names line f none = ap (found_word (length names) line f.byte) (sym (unmeant_none names f.bytes none))
-
-module _ (names : List (List ℕ)) (line word : ℕ) (f : Field) (fs fields : List Field) (is : fields ≡ f ∷ fs) where
-  pub names_more : (bit : ℕ) → Ok bit ≡ name_word_of names line f → with_names names line word fields ≡ with_names names line (bit_or word bit) fs
-  names_more bit e = ap (with_names names line word) is ∙ ap (λ r. and_then r (λ b. with_names names line (bit_or word b) fs)) (sym e)
-
-  pub names_refused : (e : QueryFault) → Err e ≡ name_word_of names line f → with_names names line word fields ≡ Err e
-  names_refused e is-e = ap (with_names names line word) is ∙ ap (λ r. and_then r (λ b. with_names names line (bit_or word b) fs)) (sym is-e)

@@ -5,7 +5,6 @@ pub mod Lookups
 pub mod Meant
 pub mod Splits
 pub mod Supposes
-pub mod Tested
 pub mod Told
 pub mod Verbs
 pub mod Written

@@ -1,27 +1,40 @@
 -- Comparisons of bytes, and the names as a view shows them.
-use Rattle.std.proofs.Common.{◌≡◌, ℕ, ◌-◌, ◌<◌, Bool, List, [], length, get_or, drop, Decides, sym, ap, ◌∙◌, arith, rules}
-use Rattle.std.specs.Str.{bytes_eq}
-use Rattle.std.proofs.lemmas.Slice.Eq.{bytes_eq-Decides}
+use Rattle.std.proofs.Common.{◌≡◌, ℕ, ◌<◌, List, [], length, get_or, drop, Some, None, Option, MatchOption, ◌≢◌, refl, sym, ap, ◌∙◌, arith, ◌≤◌}
 use Rattle.std.proofs.lemmas.List.{get_or-map, length-drop, length-map}
-use Rattle.query.specs.Names.{signal_names}
+use Rattle.query.specs.Meaning.{Means, Unmeant}
 use Rattle.table.specs.declared.place.Place.{Place}
 use Rattle.table.specs.Names.{part_at}
+use Rattle.view.specs.Shown.{signal_count, signal_names}
 use Rattle.view.specs.Views.{absent, signal_place}
+use Rattle.view.specs.declared.table_view.TableView.{TableView}
 
--- what a comparison of slices answers
-pub same_told : (xs ys : List ℕ) (r : Bool) → Decides r (xs ≡ ys) → r ≡ bytes_eq xs ys
-same_told xs ys r told = search (rules, bytes_eq-Decides)
-
-pub name_told : (shown name bytes : List ℕ) (r : Bool) → shown ≡ name → r ≡ bytes_eq shown bytes → Decides r (name ≡ bytes)
-name_told shown name bytes r is told =
-    ((λ e. sym is ∙ (bytes_eq-Decides shown bytes).0 (sym told ∙ e)), λ e. told ∙ (bytes_eq-Decides shown bytes).1 (is ∙ e))
-
-module _ (text words : List ℕ) (places : List Place) where
-  pub length_names : length (signal_names text words places) ≡ length places - length words
-  length_names = length-map (drop (length words) places) (part_at text) ∙ length-drop (length words) places
+module _ (view : TableView) where
+  pub length_names : length (signal_names view) ≡ signal_count view
+  length_names = length-map (drop (length view.words.now) view.places.now) (part_at view.text.now) ∙ length-drop (length view.words.now) view.places.now
 
   -- the name that a view hands out
-  pub name_shown : (i : ℕ) → i < length (signal_names text words places) → (bytes : List ℕ) (place : Place)
-      → place ≡ signal_place (length words) places i → bytes ≡ part_at text place → bytes ≡ get_or (signal_names text words places) i []
+  pub name_shown : (i : ℕ) → i < length (signal_names view) → (bytes : List ℕ) (place : Place)
+      → place ≡ signal_place (length view.words.now) view.places.now i → bytes ≡ part_at view.text.now place → bytes ≡ get_or (signal_names view) i []
   name_shown i lt bytes place ep eb =
-      eb ∙ ap (part_at text) ep ∙ sym (get_or-map (part_at text) (drop (length words) places) i absent [] (omega (arith, length-map (drop (length words) places) (part_at text))))
+      eb ∙ ap (part_at view.text.now) ep
+      ∙ sym (get_or-map (part_at view.text.now) (drop (length view.words.now) view.places.now) i absent [] (omega (arith, length-map (drop (length view.words.now) view.places.now) (part_at view.text.now))))
+
+  -- the bytes that the view hands out for signal i
+  abbrev pub handed : ℕ → List ℕ
+  handed i = part_at view.text.now (signal_place (length view.words.now) view.places.now i)
+
+  handed_is : (i : ℕ) → i < length (signal_names view) → handed i ≡ get_or (signal_names view) i []
+  handed_is i lt = name_shown i lt (handed i) (signal_place (length view.words.now) view.places.now i) refl refl
+
+  -- a search of the signals below n finds what is meant
+  pub found_is : (n : ℕ) (bytes : List ℕ) (r : Option ℕ) → n ≡ length (signal_names view)
+      → MatchOption r ((k : ℕ) → 0 ≤ k → k < n → handed k ≢ bytes)
+      (λ i. (0 ≤ i) × (i < n) × (handed i ≡ bytes) × ((k : ℕ) → 0 ≤ k → k < i → handed k ≢ bytes))
+      → MatchOption r (Unmeant (signal_names view) bytes) (Means (signal_names view) bytes)
+  found_is n bytes None is none = λ i lt same. none i (omega arith) (omega arith) (handed_is i lt ∙ same)
+  found_is n bytes (Some i) is (low, within, here, before) =
+      record {
+        within = omega arith;
+        here = sym (handed_is i (omega arith)) ∙ here;
+        lowest = λ k lt same. before k (omega arith) lt (handed_is k (omega arith) ∙ same);
+      }

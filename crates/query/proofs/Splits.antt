@@ -1,6 +1,6 @@
 -- A line's fields, one by one: the field that begins at a position, and the fields behind it.
-use Rattle.std.proofs.Common.{◌≡◌, ℕ, suc, ◌+◌, ◌-◌, ◌<◌, ◌≤◌, Bool, true, false, cond, eqb, List, [], ◌∷◌, length, take, drop, refl, ap, ◌∙◌, arith}
-use Rattle.std.proofs.lemmas.List.{at_drop_more, at_drop_all, drop-drop}
+use Rattle.std.proofs.Common.{◌≡◌, ℕ, suc, ◌+◌, ◌-◌, ◌<◌, Bool, true, false, cond, eqb, List, [], ◌∷◌, length, take, drop, refl, ap, ◌∙◌, arith}
+use Rattle.std.proofs.lemmas.List.{at_drop_more, drop-drop}
 use Rattle.query.specs.Fields.{longer, fields_from, fields_of, comma_from, field_end_of, field_at, rest_from, fields_behind}
 
 -- the number of bytes before the first comma
@@ -43,15 +43,11 @@ field_first line p e is =
     ∙ ap (λ n. field_at p e line ∷ rest_from n (drop n line)) whole
 
 -- the fields of a line
-pub line_first : (line : List ℕ) (e : ℕ) → e ≡ field_end_of 0 line → fields_of line ≡ field_at 0 e line ∷ fields_behind e line
-line_first line e is = field_first line 0 e is
+pub line_first : (line : List ℕ) (e : ℕ) → e ≡ field_end_of 0 line → fields_of line ≡ record { byte = 1; bytes = take e line } ∷ fields_behind e line
+line_first line e is = field_first line 0 e is ∙ ap (λ n. record { byte = 1; bytes = take n line } ∷ fields_behind e line) (omega arith)
 
 -- the fields behind the comma at a position
 pub behind_more : (line : List ℕ) (at e : ℕ) → at < length line → e ≡ field_end_of (at + 1) line → fields_behind at line ≡ field_at (at + 1) e line ∷ fields_behind e line
 behind_more line at e lt is =
     let next : at + 2 ≡ at + 1 + 1 = omega arith in
     at_drop_more (rest_from at) line at 0 lt ∙ ap (λ n. fields_from n (drop (at + 1) line)) next ∙ field_first line (at + 1) e is
-
--- the end of the line
-pub behind_none : (line : List ℕ) (at : ℕ) → length line ≤ at → fields_behind at line ≡ []
-behind_none line at le = at_drop_all (rest_from at) line at le

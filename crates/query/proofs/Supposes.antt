@@ -1,7 +1,7 @@
 -- The supposed names of a line, one by one, and the end of them.
-use Rattle.std.proofs.Common.{◌≡◌, ℕ, suc, ◌+◌, ◌<◌, ◌≤◌, Bool, false, cond, ltb, ◌⊎◌, List, [], ◌∷◌, length, take, drop, Ok, Err, Result, sym, ap, ◌∙◌, inl, inr, arith}
+use Rattle.std.proofs.Common.{◌≡◌, ℕ, suc, ◌+◌, ◌<◌, ◌≤◌, Bool, false, cond, ltb, ◌⊎◌, List, ◌∷◌, length, take, drop, Ok, Err, Result, sym, ap, ◌∙◌, inl, inr, arith}
 use lib.Bits.{bit_or}
-use Rattle.std.proofs.lemmas.Bool.{cases_lt, cond-true, lt-ltb, le-ltb}
+use Rattle.std.proofs.lemmas.Bool.{cases_lt, lt-ltb, le-ltb}
 use Rattle.query.specs.declared.faults.QueryFault.{QueryFault}
 use Rattle.query.specs.declared.faults.QueryFault.TheVariants.{TooFew}
 use Rattle.query.specs.declared.reply.Reply.{Reply}
@@ -37,10 +37,6 @@ module _ (names : List (List ℕ)) (rows : List ℕ) (line size : ℕ) where
 
     pub suppose_refused : (e : QueryFault) → Err e ≡ name_word_of names line f → suppose_reply names rows word line size k fields ≡ Err e
     suppose_refused e is-e = step ∙ ap (λ r. and_then (and_then r (λ b. with_names names line (bit_or word b) (take j fs))) (after (drop j fs) (ltb (length fs) j))) (sym is-e)
-
-  pub suppose_few : (word : ℕ) (fields : List Field) → fields ≡ [] → (k j : ℕ) → k ≡ suc j → suppose_reply names rows word line size k fields ≡ Err (TooFew line (size + 1))
-  suppose_few word fields none k j more =
-      ap (λ n. suppose_reply names rows word line size n fields) more ∙ ap (suppose_reply names rows word line size (suc j)) none ∙ cond-true _ _ _ (lt-ltb 0 (suc j) (omega arith))
 
   module _ (word : ℕ) (fields : List Field) (k : ℕ) (none : k ≡ 0) where
     end : suppose_reply names rows word line size k fields ≡ after fields false word

@@ -1,5 +1,5 @@
 -- A query by the fields of its line: its verb, the number of a `follows`, and the line itself.
-use Rattle.std.proofs.Common.{◌≡◌, ℕ, ◌+◌, ◌-◌, true, false, List, [], ◌∷◌, length, take, Ok, Err, codes, Result, sym, ap, ◌∙◌, arith}
+use Rattle.std.proofs.Common.{◌≡◌, ℕ, true, false, List, ◌∷◌, length, take, Ok, Err, codes, Result, sym, ap, ◌∙◌}
 use Rattle.std.specs.Str.{bytes_eq}
 use Rattle.std.proofs.lemmas.Bool.{cond-true, cond-false}
 use Rattle.query.specs.declared.faults.QueryFault.{QueryFault}
@@ -7,24 +7,11 @@ use Rattle.query.specs.declared.faults.QueryFault.TheVariants as fault
 use Rattle.query.specs.declared.reply.Reply.{Reply}
 use Rattle.query.specs.Fields.{Field, fields_of}
 use Rattle.query.specs.Names.{and_then, with_names}
-use Rattle.query.specs.Queries.{pass_up, count_of, suppose_reply, follows_reply, given_reply, given_known, fields_reply, fields_known, reply_by_line, known_by_line, known_upto, reply_of, known_after}
+use Rattle.query.specs.Queries.{pass_up, follows_reply, given_reply, given_known, fields_reply, fields_known, reply_by_line, known_by_line, known_upto, reply_of, known_after}
 use Rattle.text.specs.declared.faults.FieldFault.{FieldFault}
-use Rattle.text.specs.declared.faults.FieldFault.TheVariants.{NoNumber}
 use Rattle.text.specs.Lines.{line_end_of}
 
 module _ (names : List (List ℕ)) (rows : List ℕ) (start line : ℕ) where
-  -- the number of a `follows`
-  module _ (size : ℕ) (fields : List Field) where
-    pub follows_none : fields ≡ [] → follows_reply names rows start line size fields ≡ Err (fault.Field (NoNumber line (size + 1)))
-    follows_none none = ap (follows_reply names rows start line size) none
-
-    module _ (f : Field) (fs : List Field) (is : fields ≡ f ∷ fs) where
-      pub follows_refused : (e : FieldFault) → Err e ≡ count_of line f → follows_reply names rows start line size fields ≡ Err (fault.Field e)
-      follows_refused e count = ap (follows_reply names rows start line size) is ∙ ap (λ r. and_then (pass_up r) (λ k. suppose_reply names rows start line size k fs)) (sym count)
-
-      pub follows_counted : (k : ℕ) → Ok k ≡ count_of line f → follows_reply names rows start line size fields ≡ suppose_reply names rows start line size k fs
-      follows_counted k count = ap (follows_reply names rows start line size) is ∙ ap (λ r. and_then (pass_up r) (λ n. suppose_reply names rows start line size n fs)) (sym count)
-
   -- what a query is answered, with the known set afterwards
   pub record Answered (bytes : List ℕ) (r : Result Reply QueryFault) (after : ℕ) : Type 0 where
     pub answer : r ≡ reply_by_line names rows start line bytes
@@ -47,20 +34,13 @@ module _ (names : List (List ℕ)) (rows : List ℕ) (start line : ℕ) where
       by_follows same er =
           record { answer = er ∙ sym (ap (fields_reply names rows start line (length bytes)) is ∙ cond-false _ _ _ other ∙ cond-true _ _ _ same); known = as_before }
 
-      pub by_none : bytes_eq verb.bytes (codes "follows") ≡ false → r ≡ Err (fault.NoVerb line) → Answered bytes r after
-      by_none neither er =
-          record { answer = er ∙ sym (ap (fields_reply names rows start line (length bytes)) is ∙ cond-false _ _ _ other ∙ cond-false _ _ _ neither); known = as_before }
-
   -- the line up to its line feed
   module _ (text : List ℕ) (end : ℕ) (is : Ok end ≡ line_end_of line 0 text) where
-    from_start : take (end - 0) text ≡ take end text
-    from_start = let e : end - 0 ≡ end = omega arith in ap (λ n. take n text) e
+    pub line_reply : reply_by_line names rows start line (take end text) ≡ reply_of names rows start line text
+    line_reply = ap (λ r. and_then (pass_up r) (λ n. reply_by_line names rows start line (take n text))) is
 
-    pub line_reply : reply_by_line names rows start line (take (end - 0) text) ≡ reply_of names rows start line text
-    line_reply = ap (reply_by_line names rows start line) from_start ∙ ap (λ r. and_then (pass_up r) (λ n. reply_by_line names rows start line (take n text))) is
-
-    pub line_known : known_by_line names start line (take (end - 0) text) ≡ known_after names start line text
-    line_known = ap (known_by_line names start line) from_start ∙ ap (known_upto names start line text) is
+    pub line_known : known_by_line names start line (take end text) ≡ known_after names start line text
+    line_known = ap (known_upto names start line text) is
 
   -- no line feed
   module _ (text : List ℕ) (e : FieldFault) (is : Err e ≡ line_end_of line 0 text) where

@@ -1,5 +1,6 @@
 pub mod Faults
 pub mod Fields
+pub mod Lefts
 pub mod Meaning
 pub mod Names
 pub mod Queries

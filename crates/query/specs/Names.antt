@@ -6,12 +6,6 @@ use Rattle.std.specs.Str.{bytes_eq}
 use Rattle.query.specs.declared.faults.QueryFault.{QueryFault}
 use Rattle.query.specs.declared.faults.QueryFault.TheVariants.{NoName}
 use Rattle.query.specs.Fields.{Field}
-use Rattle.table.specs.declared.place.Place.{Place}
-use Rattle.view.specs.Views.{table_of}
-
--- the names of a table's signals
-abbrev pub signal_names : (text words : List ℕ) → List Place → List (List ℕ)
-signal_names text words places = (table_of text words places).signal_names
 
 -- the lowest-numbered signal with these bytes for its name, among the names of the signals from i on
 abbrev pub named_from : (i : ℕ) → (names : List (List ℕ)) → (bytes : List ℕ) → Option ℕ

@@ -1,7 +1,7 @@
 ghost use Rattle.query.specs.Meaning.{Replies};
-ghost use Rattle.query.specs.Names.{signal_names};
 ghost use Rattle.query.specs.Queries.{known_after, reply_of};
 ghost use Rattle.std.specs.Prelude.{◌≡◌};
+ghost use Rattle.view.specs.Shown.{signal_names};
 
 use crate::faults::QueryFault;
 use crate::known::Known;
@@ -37,9 +37,9 @@ impl<'t, 'r, 'p, 'm> Query<'t, 'r, 'p, 'm> {
 
     // Answers the query on the first line of the text, which has the number `line`, by the rows of the base's table.
     pub fn ask(&mut self, line: usize, text: &[u8]) -> Result<Reply, QueryFault>
-        ensures answer { result ≡ reply_of (signal_names self.old.base.view.text.now self.old.base.view.words.now self.old.base.view.places.now) self.old.base.view.words.now self.old.known.word line text.now }
-        ensures known { self.new.known.word ≡ known_after (signal_names self.old.base.view.text.now self.old.base.view.words.now self.old.base.view.places.now) self.old.known.word line text.now }
-        ensures meaning { Replies (signal_names self.old.base.view.text.now self.old.base.view.words.now self.old.base.view.places.now) self.old.base.view.words.now self.old.known.word self.new.known.word text.now result }
+        ensures answer { result ≡ reply_of (signal_names self.old.base.view) self.old.base.view.words.now self.old.known.word line text.now }
+        ensures known { self.new.known.word ≡ known_after (signal_names self.old.base.view) self.old.known.word line text.now }
+        ensures meaning { Replies (signal_names self.old.base.view) self.old.base.view.words.now self.old.known.word self.new.known.word text.now result }
         ensures base { self.new.base ≡ self.old.base }
     {
         ask(&self.base.view(), &mut self.known, line, text)

@@ -1,9 +1,9 @@
-ghost use Rattle.fault.specs.Layers.{in_query};
 ghost use Rattle.query.specs.Faults.{fault_of};
 ghost use Rattle.query.specs.declared.faults.QueryFault.TheVariants.{Field};
 ghost use Rattle.std.specs.Prelude.{◌≡◌};
 
 use fault::Fault;
+use fault::refusal::Refusal;
 use text::faults::FieldFault;
 
 // Why a query is refused.
@@ -19,31 +19,22 @@ pub enum QueryFault {
     TooFew { line: usize, byte: usize },
 }
 
-impl QueryFault {
-    // Tells the refusal's letter, number, line and byte.
-    pub fn fault(&self) -> Fault
-        ensures told { result ≡ fault_of self.now }
-    {
-        match *self {
-            QueryFault::Field(inner) => inner.fault(),
-            QueryFault::NoVerb { line } => in_queries(62, line, 1),
-            QueryFault::NoName { line, byte } => in_queries(63, line, byte),
-            QueryFault::TooFew { line, byte } => in_queries(64, line, byte),
-        }
+impl Refusal for QueryFault {
+    ghost tells = { fault_of };
+
+    // What the refusal tells; that of a line or a field is passed up whole.
+    fn fault(&self) -> Fault {
+        let (number, line, byte) = match *self {
+            QueryFault::Field(inner) => return inner.fault(),
+            QueryFault::NoVerb { line } => (62, line, 1),
+            QueryFault::NoName { line, byte } => (63, line, byte),
+            QueryFault::TooFew { line, byte } => (64, line, byte),
+        };
+        Fault::in_text(b'A', number, line, byte)
     }
 }
 
-// A refusal of this layer.
-fn in_queries(number: u8, line: usize, byte: usize) -> Fault
-    ensures told { result ≡ in_query number line byte }
-{
-    Fault {
-        letter: b'A',
-        number,
-        line,
-        byte,
-    }
-}
+// Each `From` is by hand: a derived one would have no contract, and clauses name the refusal.
 
 // A refusal of a line or a field, as a query tells it.
 impl From<FieldFault> for QueryFault {

@@ -1,25 +1,18 @@
 ghost use Rattle.std.specs.Prelude.{◌≡◌, ◌≤◌, length};
-ghost use Rattle.query.specs.Fields.{field_end_of};
-ghost use Rattle.std.specs.Str.{bytes_eq};
 
-// Finds where the field that begins at `at` ends: the position of the next comma, or the line's end.
-pub(crate) fn field_end(line: &[u8], at: usize) -> usize
-    requires inside { at ≤ length line.now }
-    ensures value { result ≡ field_end_of at line.now }
-    ensures behind { at ≤ result }
-    ensures inside { result ≤ length line.now }
-{
-    for i in at..line.len() {
-        if line[i] == b',' {
-            return i;
-        }
-    }
-    line.len()
+mod calls;
+
+// A field of a line: the byte where it starts, counted from 1, and its bytes.
+#[derive(Clone, Copy)]
+pub(crate) struct Field<'a> {
+    pub byte: usize,
+    pub bytes: &'a [u8],
 }
 
-// Tells whether the bytes are the same.
-pub(crate) fn is_same(some: &[u8], other: &[u8]) -> bool
-    ensures answer { result ≡ bytes_eq some.now other.now }
-{
-    some == other
+// The fields of a line that are still to be read: those behind position `at`.
+#[derive(Clone, Copy)]
+pub(crate) struct Fields<'a> {
+    line: &'a [u8],
+    at: usize,
+    ghost within: { at ≤ length line.now },
 }

@@ -6,9 +6,8 @@ pub mod base_query;
 pub mod faults;
 mod field;
 pub mod known;
-mod name;
+mod names;
 pub mod query;
 pub mod reply;
-mod row;
 #[cfg(test)]
 mod tests;

@@ -1,16 +1,17 @@
-ghost use Rattle.std.specs.Prelude.{◌≡◌, ◌≤◌, length};
-ghost use Rattle.query.specs.Fields.{field_at, fields_behind};
+ghost use Rattle.std.specs.Prelude.{◌≡◌, length};
+ghost use Rattle.query.specs.Lefts.{left, read_as};
 ghost use Rattle.query.specs.Meaning.{Replies};
-ghost use Rattle.query.specs.Names.{signal_names, with_names};
+ghost use Rattle.query.specs.Names.{with_names};
 ghost use Rattle.query.specs.Queries.{count_of, follows_reply, given_known, given_reply, known_after, known_by_line, reply_by_line, reply_of, suppose_reply};
+ghost use Rattle.view.specs.Shown.{signal_names};
 
 use crate::faults::QueryFault;
-use crate::field::{field_end, is_same};
+use crate::field::{Field, Fields};
 use crate::known::Known;
 use crate::known::supposing::Supposing;
-use crate::name::{name_word, read_names};
+use crate::names::Names;
 use crate::reply::Reply;
-use crate::row::holds_in;
+use operators::holds::rows_hold;
 use text::faults::FieldFault;
 use text::line::line_end;
 use text::number::number;
@@ -23,110 +24,82 @@ pub fn ask(
     line: usize,
     text: &[u8],
 ) -> Result<Reply, QueryFault>
-    ensures answer { result ≡ reply_of (signal_names view.now.text.now view.now.words.now view.now.places.now) view.now.words.now known.old.word line text.now }
-    ensures known { known.new.word ≡ known_after (signal_names view.now.text.now view.now.words.now view.now.places.now) known.old.word line text.now }
-    ensures meaning { Replies (signal_names view.now.text.now view.now.words.now view.now.places.now) view.now.words.now known.old.word known.new.word text.now result }
+    ensures answer { result ≡ reply_of (signal_names view.now) view.now.words.now known.old.word line text.now }
+    ensures known { known.new.word ≡ known_after (signal_names view.now) known.old.word line text.now }
+    ensures meaning { Replies (signal_names view.now) view.now.words.now known.old.word known.new.word text.now result }
 {
     let end = line_end(text, line, 0)?;
-    ask_line(view, known, line, &text[0..end])
+    ask_line(&Names { view: *view, line }, known, &text[..end])
 }
 
 // Answers the query that the bytes of a line put.
-fn ask_line(
-    view: &TableView,
-    known: &mut Known,
-    line: usize,
-    bytes: &[u8],
-) -> Result<Reply, QueryFault>
-    ensures answer { result ≡ reply_by_line (signal_names view.now.text.now view.now.words.now view.now.places.now) view.now.words.now known.old.word line bytes.now }
-    ensures known { known.new.word ≡ known_by_line (signal_names view.now.text.now view.now.words.now view.now.places.now) known.old.word line bytes.now }
+fn ask_line(names: &Names, known: &mut Known, bytes: &[u8]) -> Result<Reply, QueryFault>
+    ensures answer { result ≡ reply_by_line (signal_names names.now.view) names.now.view.words.now known.old.word names.now.line bytes.now }
+    ensures known { known.new.word ≡ known_by_line (signal_names names.now.view) known.old.word names.now.line bytes.now }
 {
-    let at = field_end(bytes, 0);
-    let verb = &bytes[0..at];
-    if is_same(verb, b"given") {
-        given(view, known, line, bytes, at)
-    } else if is_same(verb, b"follows") {
-        follows(view, known, line, bytes, at)
-    } else {
-        Err(QueryFault::NoVerb { line })
+    let (verb, fields) = Fields::split(bytes);
+    match verb.bytes {
+        b"given" => given(names, known, fields),
+        b"follows" => follows(names, known, fields),
+        _ => Err(QueryFault::NoVerb { line: names.line }),
     }
 }
 
-// Adds the signals that the fields behind `at` name to the known set, all or none.
-fn given(
-    view: &TableView,
-    known: &mut Known,
-    line: usize,
-    bytes: &[u8],
-    at: usize,
-) -> Result<Reply, QueryFault>
-    requires inside { at ≤ length bytes.now }
-    ensures answer { result ≡ given_reply (with_names (signal_names view.now.text.now view.now.words.now view.now.places.now) line known.old.word (fields_behind at bytes.now)) }
-    ensures known { known.new.word ≡ given_known known.old.word (with_names (signal_names view.now.text.now view.now.words.now view.now.places.now) line known.old.word (fields_behind at bytes.now)) }
+// Adds the signals that the fields name to the known set, all or none.
+fn given(names: &Names, known: &mut Known, fields: Fields) -> Result<Reply, QueryFault>
+    ensures answer { result ≡ given_reply (with_names (signal_names names.now.view) names.now.line known.old.word (left fields.entry)) }
+    ensures known { known.new.word ≡ given_known known.old.word (with_names (signal_names names.now.view) names.now.line known.old.word (left fields.entry)) }
 {
-    let word = read_names(view, line, bytes, at, known.word())?;
+    let word = names.joined(known.word(), fields)?;
     known.set(word);
     Ok(Reply::Done)
 }
 
 // Answers whether the names asked follow from the known set and the names supposed.
-fn follows(
-    view: &TableView,
-    known: &mut Known,
-    line: usize,
-    bytes: &[u8],
-    at: usize,
-) -> Result<Reply, QueryFault>
-    requires inside { at ≤ length bytes.now }
-    ensures answer { result ≡ follows_reply (signal_names view.now.text.now view.now.words.now view.now.places.now) view.now.words.now known.old.word line (length bytes.now) (fields_behind at bytes.now) }
+fn follows(names: &Names, known: &mut Known, mut fields: Fields) -> Result<Reply, QueryFault>
+    ensures answer { result ≡ follows_reply (signal_names names.now.view) names.now.view.words.now known.old.word names.now.line (length fields.entry.line.now) (left fields.entry) }
     ensures known { known.new.word ≡ known.old.word }
 {
-    if at == bytes.len() {
-        return Err(QueryFault::Field(FieldFault::NoNumber { line, byte: at + 1 }));
-    }
-    let end = field_end(bytes, at + 1);
-    let count = count_in(line, bytes, at + 1, end)?;
-    suppose(view, known, line, bytes, end, count)
+    let Some(field) = fields.next() else {
+        return Err(QueryFault::Field(FieldFault::NoNumber {
+            line: names.line,
+            byte: fields.end(),
+        }));
+    };
+    let count = count_in(names.line, field)?;
+    suppose(names, known, fields, count)
 }
 
-// Reads the number that the field from `start` to `end` writes; a refusal names the start of the field.
-fn count_in(line: usize, bytes: &[u8], start: usize, end: usize) -> Result<usize, FieldFault>
-    requires ordered { start ≤ end }
-    requires inside { end ≤ length bytes.now }
-    ensures count { result ≡ count_of line (field_at start end bytes.now) }
+// Reads the number that a field writes; a refusal names the start of the field.
+fn count_in(line: usize, field: Field) -> Result<usize, FieldFault>
+    ensures count { result ≡ count_of line (read_as field.entry) }
 {
-    match number(&bytes[start..end], line) {
-        Ok(count) => Ok(count),
-        Err(_) => Err(FieldFault::NoNumber {
-            line,
-            byte: start + 1,
-        }),
-    }
+    number(field.bytes, line).map_err(|_| FieldFault::NoNumber {
+        line,
+        byte: field.byte,
+    })
 }
 
 // Supposes the next `count` names one by one, and answers whether the further names follow; the known set is then as before.
 fn suppose(
-    view: &TableView,
+    names: &Names,
     known: &mut Known,
-    line: usize,
-    bytes: &[u8],
-    from: usize,
+    mut fields: Fields,
     count: usize,
 ) -> Result<Reply, QueryFault>
-    requires inside { from ≤ length bytes.now }
-    ensures answer { result ≡ suppose_reply (signal_names view.now.text.now view.now.words.now view.now.places.now) view.now.words.now known.old.word line (length bytes.now) count (fields_behind from bytes.now) }
+    ensures answer { result ≡ suppose_reply (signal_names names.now.view) names.now.view.words.now known.old.word names.now.line (length fields.entry.line.now) count (left fields.entry) }
     ensures known { known.new.word ≡ known.old.word }
 {
     let mut supposing = Supposing::new(known);
-    let mut at = from;
-    for _taken in 0..count {
-        if at == bytes.len() {
-            return Err(QueryFault::TooFew { line, byte: at + 1 });
-        }
-        let end = field_end(bytes, at + 1);
-        supposing.add(name_word(view, line, bytes, at + 1, end)?);
-        at = end;
+    for _ in 0..count {
+        let Some(field) = fields.next() else {
+            return Err(QueryFault::TooFew {
+                line: names.line,
+                byte: fields.end(),
+            });
+        };
+        supposing.add(names.word(field)?);
     }
-    let asked = read_names(view, line, bytes, at, 0)?;
-    Ok(Reply::of(holds_in(view.words(), supposing.word(), asked)))
+    let asked = names.joined(0, fields)?;
+    Ok(Reply::from(rows_hold(names.view.words(), supposing.word(), asked)))
 }

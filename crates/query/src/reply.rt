@@ -13,14 +13,7 @@ pub enum Reply {
 }
 
 impl Reply {
-    // Yes where it holds, else no.
-    pub(crate) fn of(holds: bool) -> Self
-        ensures verdict { result ≡ verdict holds }
-    {
-        if holds { Reply::Yes } else { Reply::No }
-    }
-
-    // The bytes of the reply, without a line feed.
+    // The bytes of the reply, without a line feed; they go into lent output as they are, so there is no `Display`, which writes text through a formatter.
     pub fn text(&self) -> &'static [u8]
         ensures text { result.now ≡ reply_text self.now }
     {
@@ -29,5 +22,14 @@ impl Reply {
             Reply::Yes => b"yes",
             Reply::No => b"no",
         }
+    }
+}
+
+// Yes where it holds, else no.
+impl From<bool> for Reply {
+    ghost from_gives = { λ holds reply. reply ≡ verdict holds };
+
+    fn from(holds: bool) -> Reply {
+        if holds { Reply::Yes } else { Reply::No }
     }
 }

@@ -2,6 +2,7 @@ use crate::known::Known;
 use crate::query::ask;
 use crate::reply::Reply;
 use fault::Fault;
+use fault::refusal::Refusal;
 use std::process::Abort;
 use table::place::Place;
 use view::table_view::TableView;
@@ -9,51 +10,34 @@ use view::table_view::TableView;
 // The line of the queries.
 const LINE: usize = 7;
 
+// The places of the names p and q.
+const P: Place = Place {
+    start: 0,
+    length: 1,
+};
+
+const Q: Place = Place {
+    start: 1,
+    length: 1,
+};
+
 // The names of two rows and of the signals p, q and p again.
-const PLACES: [Place; 5] = [
-    Place {
-        start: 0,
-        length: 1,
-    },
-    Place {
-        start: 1,
-        length: 1,
-    },
-    Place {
-        start: 0,
-        length: 1,
-    },
-    Place {
-        start: 1,
-        length: 1,
-    },
-    Place {
-        start: 0,
-        length: 1,
-    },
-];
+const PLACES: [Place; 5] = [P, Q, P, Q, P];
 
 // The first row contains the first p and q, the second only the last p.
 const WORDS: [u64; 2] = [0b110, 0b001];
 
 // Puts a query to the table.
 fn told(known: &mut Known, query: &[u8]) -> Result<Reply, Fault> {
-    match ask(&TableView::new(b"pq", &WORDS, &PLACES), known, LINE, query) {
-        Ok(reply) => Ok(reply),
-        Err(refusal) => Err(refusal.fault()),
-    }
+    let view = TableView::new(b"pq", &WORDS, &PLACES);
+    ask(&view, known, LINE, query).map_err(|refusal| refusal.fault())
 }
 
 // Puts a query that is refused, and looks at the refusal and the known set.
 fn refused(rt: &impl Abort, query: &[u8], letter: u8, number: u8, byte: usize) {
     let mut known = Known::new();
     assert_eq!(rt; told(&mut known, b"given,q\n"), Ok(Reply::Done));
-    let fault = Fault {
-        letter,
-        number,
-        line: LINE,
-        byte,
-    };
+    let fault = Fault::in_text(letter, number, LINE, byte);
     assert_eq!(rt; told(&mut known, query), Err(fault));
     assert_eq!(rt; known.word(), 0b010);
 }

@@ -1,7 +1,7 @@
-ghost use Rattle.std.specs.Prelude.{◌≡◌};
 ghost use Rattle.sets.specs.Fault.{fault_of};
 
 use fault::Fault;
+use fault::refusal::Refusal;
 
 // Why a set or a rule was not made, or a survey did not take a call.
 #[derive(Clone, Copy, PartialEq, Eq, Debug)]
@@ -16,22 +16,17 @@ pub enum SetFault {
     Ended,
 }
 
-impl SetFault {
+impl Refusal for SetFault {
+    ghost tells = { fault_of };
+
     // What the refusal tells.
-    pub fn fault(&self) -> Fault
-        ensures told { result ≡ fault_of self.now }
-    {
+    fn fault(&self) -> Fault {
         let number = match self {
             SetFault::Unfit => 11,
             SetFault::NotInside => 12,
             SetFault::OtherWidth => 13,
             SetFault::Ended => 14,
         };
-        Fault {
-            letter: b'S',
-            number,
-            line: 0,
-            byte: 0,
-        }
+        Fault::textless(b'S', number)
     }
 }

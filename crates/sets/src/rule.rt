@@ -46,3 +46,16 @@ impl Rule {
         self.conclusion
     }
 }
+
+// The rule from the empty set of no signals to itself.
+impl Default for Rule {
+    ghost is_default = { λ rule. (rule.premise.width ≡ 0) × (rule.premise.word ≡ 0) × (rule.conclusion.word ≡ 0) };
+
+    fn default() -> Rule {
+        let empty = Set::default();
+        Rule {
+            premise: empty,
+            conclusion: empty,
+        }
+    }
+}

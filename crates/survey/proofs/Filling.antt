@@ -1,34 +1,34 @@
 -- A tray that is filled by the steps of a survey from the empty set on.
-use Rattle.std.proofs.Common.{◌≡◌, ℕ, suc, ◌+◌, ◌-◌, ◌^◌, ◌<◌, ◌≤◌, min, true, false, eqb, ◌⊎◌, List, [], ◌∷◌, ◌++◌, length, take, drop, sym, refl, ap, ◌∙◌, subst, inl, inr, append_assoc, arith, length-append, length-take}
+use Rattle.std.proofs.Common.{Ok, Err, ◌≡◌, ℕ, suc, ◌+◌, ◌-◌, ◌^◌, ◌<◌, ◌≤◌, min, true, false, eqb, ◌⊎◌, List, [], ◌∷◌, ◌++◌, length, take, drop, sym, refl, ap, ◌∙◌, subst, inl, inr, append_assoc, arith, length-append, length-take}
 use Rattle.std.specs.List.{AllByRecursion}
-use Rattle.std.proofs.lemmas.List.{map_push, length-map, take_all, take_at, drop-drop}
+use Rattle.std.proofs.lemmas.List.{map_push, length-map, take_all, take_at}
 use Rattle.std.proofs.lemmas.Bool.{cases_Bool, cond-true, cond-false, eqb-true}
 use Rattle.sets.specs.declared.faults.SetFault.{SetFault}
 use Rattle.sets.specs.declared.set.Set.{Set}
 use Rattle.theory.specs.Closures.{Closed, LeastClosed, Listing, closed_below}
 use Rattle.theory.proofs.Listing.{closed_push, closed_below_front, listing_closed_below, listing_none}
 use Rattle.tray.specs.declared.Tray.{Tray}
-use Rattle.tray.specs.Tray.{capacity, entries, max_entries}
-use Rattle.survey.specs.declared.call.Answer.{Answer}
+use Rattle.tray.specs.Tray.{Kept, capacity, entries, max_entries}
+use Rattle.survey.specs.States.{Answer, FreshAt}
 use Rattle.survey.specs.Calls.{Does, Lists, state_after}
 use Rattle.survey.specs.Fills.{Filled, words_of}
-use Rattle.survey.specs.declared.call.Answer.TheVariants.{Listed, Refused}
+use Rattle.survey.specs.declared.call.Granted.TheVariants.{Listed}
 use Rattle.survey.specs.declared.call.Call.TheVariants.{Step}
 use Rattle.survey.specs.declared.state.State.{State}
 use Rattle.survey.specs.declared.state.State.TheVariants.{Fresh, Running, Ended}
 
 -- the word before which all closed words from the start on are listed
 abbrev pub done_to : (m : ℕ) → State → ℕ
-done_to m (Fresh start) = start
-done_to m (Running last serial) = suc last
+done_to m (Fresh start) = start.word
+done_to m (Running last serial) = suc last.word
 done_to m Ended = 2 ^ m
 
-after_done : (m word serial : ℕ) → word < 2 ^ m → done_to m (state_after m word serial) ≡ suc word
-after_done m word serial below = by_test (cases_Bool (eqb word (2 ^ m - 1)))
+after_done : (m : ℕ) (set : Set) (serial : ℕ) → set.word < 2 ^ m → done_to m (state_after m set serial) ≡ suc set.word
+after_done m set serial below = by_test (cases_Bool (eqb set.word (2 ^ m - 1)))
   where
-    by_test : (eqb word (2 ^ m - 1) ≡ true) ⊎ (eqb word (2 ^ m - 1) ≡ false) → done_to m (state_after m word serial) ≡ suc word
-    by_test (inl full) = ap (done_to m) (cond-true _ Ended (Running word serial) full) ∙ omega (arith, eqb-true word (2 ^ m - 1) full)
-    by_test (inr less) = ap (done_to m) (cond-false _ Ended (Running word serial) less)
+    by_test : (eqb set.word (2 ^ m - 1) ≡ true) ⊎ (eqb set.word (2 ^ m - 1) ≡ false) → done_to m (state_after m set serial) ≡ suc set.word
+    by_test (inl full) = ap (done_to m) (cond-true _ Ended (Running set serial) full) ∙ omega (arith, eqb-true set.word (2 ^ m - 1) full)
+    by_test (inr less) = ap (done_to m) (cond-false _ Ended (Running set serial) less)
 
 -- what a granted step tells
 pub record Stepped (m : ℕ) (c : ℕ → ℕ) (before : State) (set : Set) (after : State) : Type 0 where
@@ -42,17 +42,17 @@ stepped_from m c before mark count set serial trials after e l =
     record {
       least = subst (λ k. LeastClosed m c k set.word) e l.least;
       width = l.width;
-      done = ap (done_to m) l.left ∙ after_done m set.word serial l.least.below;
+      done = ap (done_to m) l.left ∙ after_done m set serial l.least.below;
     }
 
-pub stepped : (span m : ℕ) (c : ℕ → ℕ) (before : State) (set : Set) (serial trials : ℕ) (after : State) → m ≡ span
-    → Does span m c Step before (Listed set serial trials) after → Stepped m c before set after
-stepped span m c (Fresh start) set serial trials after e d = stepped_from m c (Fresh start) start 0 set serial trials after refl (d e)
-stepped span m c (Running last n) set serial trials after e d = stepped_from m c (Running last n) (suc last) n set serial trials after refl (d e)
+stepped : (span m : ℕ) (c : ℕ → ℕ) (before : State) (set : Set) (serial trials : ℕ) (after : State) → m ≡ span
+    → Does span m c Step before (Ok (Listed set serial trials)) after → Stepped m c before set after
+stepped span m c (Fresh start) set serial trials after e d = stepped_from m c (Fresh start) start.word 0 set serial trials after refl (d e)
+stepped span m c (Running last n) set serial trials after e d = stepped_from m c (Running last n) (suc last.word) n set serial trials after refl (d e)
 stepped span m c Ended set serial trials after e d = absurd d
 
 -- a refused step tells that all are listed
-pub step_ended : (span m : ℕ) (c : ℕ → ℕ) (before : State) (fault : SetFault) (after : State) → m ≡ span → Does span m c Step before (Refused fault) after → done_to m before ≡ 2 ^ m
+step_ended : (span m : ℕ) (c : ℕ → ℕ) (before : State) (fault : SetFault) (after : State) → m ≡ span → Does span m c Step before (Err fault) after → done_to m before ≡ 2 ^ m
 step_ended span m c (Fresh start) fault after e d = absurd (d e)
 step_ended span m c (Running last n) fault after e d = absurd (d e)
 step_ended span m c Ended fault after e d = refl
@@ -101,23 +101,32 @@ filled_some m capacity c before sets set after f s full =
       omega (arith, ap length whole, length-append (words_of sets) (set.word ∷ rest.0)),
     )
 
--- what is equal from a place on is equal from a later place on
-pub drop_later : {X : Type 0} (n k : ℕ) (xs ys : List X) → n ≤ k → drop n xs ≡ drop n ys → drop k xs ≡ drop k ys
-drop_later n k xs ys le e =
-    let sum : n + (k - n) ≡ k = omega arith in
-    ap (λ i. drop i xs) (sym sum) ∙ sym (drop-drop (k - n) n xs) ∙ ap (drop (k - n)) e ∙ drop-drop (k - n) n ys ∙ ap (λ i. drop i ys) sum
-
-pub filling_start : (m : ℕ) (c : ℕ → ℕ) (state : State) (sets : List Set) → state ≡ Fresh 0 → sets ≡ [] → Filling m c state sets
-filling_start m c state sets e none =
-    subst (λ s. Filling m c s sets) (sym e) (subst (λ xs. Filling m c (Fresh 0) xs) (sym none) (record { listing = listing_none (Closed c) 0; widths = tt }))
+pub filling_start : (m : ℕ) (c : ℕ → ℕ) (state : State) (sets : List Set) → FreshAt 0 state → sets ≡ [] → Filling m c state sets
+filling_start m c (Fresh start) sets at none =
+    subst (λ xs. Filling m c (Fresh start) xs) (sym none)
+    record { listing = subst (λ k. Listing (Closed c) 0 k []) (sym at) (listing_none (Closed c) 0); widths = tt }
+filling_start m c (Running last serial) sets at none = absurd at
+filling_start m c Ended sets at none = absurd at
 
 module _ {A : Type 0} (span : A → ℕ) (means : A → ℕ → ℕ) (operator opened : A) (width : ℕ) (is : opened ≡ operator) (wide : width ≡ span operator) where
   -- what a survey does is told of the operator that it was opened over
-  pub does_opened : (now : A) (w : ℕ) (before : State) (answer : Answer) (after : State) → now ≡ opened → w ≡ width
+  does_opened : (now : A) (w : ℕ) (before : State) (answer : Answer) (after : State) → now ≡ opened → w ≡ width
       → Does (span now) w (means now) Step before answer after → Does (span operator) (span operator) (means operator) Step before answer after
   does_opened now w before answer after same same_width_lem d =
       subst (λ k. Does (span operator) k (means operator) Step before answer after) (same_width_lem ∙ wide)
       (subst (λ o. Does (span o) w (means o) Step before answer after) (same ∙ is) d)
+
+  -- a step of it that lists a set, and one that is refused
+  pub stepped_opened : (now : A) (w : ℕ) (before : State) (set : Set) (serial trials : ℕ) (after : State) → now ≡ opened → w ≡ width
+      → Does (span now) w (means now) Step before (Ok (Listed set serial trials)) after → Stepped (span operator) (means operator) before set after
+  stepped_opened now w before set serial trials after same same_width d =
+      stepped (span operator) (span operator) (means operator) before set serial trials after refl
+      (does_opened now w before (Ok (Listed set serial trials)) after same same_width d)
+
+  pub ended_opened : (now : A) (w : ℕ) (before : State) (fault : SetFault) (after : State) → now ≡ opened → w ≡ width
+      → Does (span now) w (means now) Step before (Err fault) after → done_to (span operator) before ≡ 2 ^ span operator
+  ended_opened now w before fault after same same_width d =
+      step_ended (span operator) (span operator) (means operator) before fault after refl (does_opened now w before (Err fault) after same same_width d)
 
   pub filling_opened : (state : State) (sets : List Set) → Filling width (means opened) state sets → Filling (span operator) (means operator) state sets
   filling_opened state sets f = subst (λ k. Filling k (means operator) state sets) wide (subst (λ o. Filling width (means o) state sets) is f)
@@ -129,16 +138,19 @@ module _ {A : Type 0} (span : A → ℕ) (means : A → ℕ → ℕ) (operator o
 pub entries_few : {T : Type 0} (t : Tray T) → length (entries t) ≤ capacity t
 entries_few t = simp length-take (omega arith)
 
+-- a tray that kept its memory has place for as many as before
+pub kept_room : {T : Type 0} (before cleared after : Tray T) → cleared.memory.now ≡ before.memory.now → Kept cleared after → capacity after ≡ capacity before
+kept_room before cleared after same kept = ap (λ n. min n max_entries) (kept.size ∙ ap length same)
+
 -- what a tray over memory holds, told of the memory
-pub filled_memory : (m : ℕ) (c : ℕ → ℕ) (t : Tray Set) (before after : List Set) → after ≡ t.memory.now → length t.memory.now ≡ length before
-    → drop (length (entries t)) t.memory.now ≡ drop (length (entries t)) before
+pub filled_memory : (m : ℕ) (c : ℕ → ℕ) (new t : Tray Set) (before after : List Set) → after ≡ t.memory.now → new.memory.now ≡ before → Kept new t
     → words_of (entries t) ≡ take (min (length before) max_entries) (closed_below c (2 ^ m)) → AllByRecursion (λ s. s.width ≡ m) (entries t) → Filled m c before after
-filled_memory m c t before after same size past words widths =
+filled_memory m c new t before after same lent kept words widths =
     let place : length (entries t) ≡ min t.count (capacity t) = simp length-take (omega arith) in
     record {
       kept = entries t;
       front = ap (take (length (entries t))) same ∙ ap (λ n. take n t.memory.now) place;
-      rest = ap (drop (length (entries t))) same ∙ past;
+      rest = ap (drop (length (entries t))) same ∙ kept.past ∙ ap (drop (length (entries t))) lent;
       words = words;
       widths = widths;
     }

@@ -1,5 +1,5 @@
 -- The survey's state agrees with its track, and the law of a list of calls grows by one call at the end.
-use Rattle.std.proofs.Common.{◌≡◌, ℕ, suc, ◌+◌, ◌-◌, ◌^◌, ◌<◌, ◌≤◌, Bool, true, false, cond, eqb, List, [], ◌∷◌, ◌++◌, length, get_or, take, sym, refl, ap, ◌∙◌, subst, arith, length-append, take_all}
+use Rattle.std.proofs.Common.{Ok, Err, ◌≡◌, ℕ, suc, ◌+◌, ◌-◌, ◌^◌, ◌<◌, ◌≤◌, Bool, true, false, cond, eqb, List, [], ◌∷◌, ◌++◌, length, get_or, take, sym, refl, ap, ◌∙◌, subst, arith, length-append, take_all}
 use mathlib.Core.List.Memᴰ
 use mathlib.Core.List.{Memᴰ}
 use native.Mathlib.Decide.{ℕ_discrete}
@@ -7,8 +7,8 @@ use Rattle.sets.specs.declared.faults.SetFault.{SetFault}
 use Rattle.sets.specs.declared.set.Set.{Set}
 use Rattle.std.proofs.lemmas.List.{take_more}
 use Rattle.std.proofs.lemmas.Bool.{eqb-true, eqb-false}
-use Rattle.survey.specs.declared.call.Answer.{Answer}
-use Rattle.survey.specs.declared.call.Answer.TheVariants.{Listed, Moved, Refused}
+use Rattle.survey.specs.States.{Answer, FreshAt}
+use Rattle.survey.specs.declared.call.Granted.TheVariants.{Listed, Moved}
 use Rattle.survey.specs.declared.call.Call.{Call}
 use Rattle.survey.specs.declared.call.Call.TheVariants.{Step, Seek, Rewind}
 use Rattle.survey.specs.declared.state.State.{State}
@@ -35,8 +35,8 @@ past_above from (x ∷ xs) r low =
 
 -- what a state tells of the track
 abbrev pub Agrees : (m : ℕ) → State → Track → Type 0
-Agrees m (Fresh start) t = t ≡ fresh start
-Agrees m (Running last serial) t = (mark_of t ≡ suc last) × (length t.listed ≡ serial) × (suc last < 2 ^ m)
+Agrees m (Fresh start) t = t ≡ fresh start.word
+Agrees m (Running last serial) t = (mark_of t ≡ suc last.word) × (length t.listed ≡ serial) × (suc last.word < 2 ^ m)
 Agrees m Ended t = Full m t
 
 -- the answer is right, and the track after it complete and told by the state left
@@ -53,63 +53,64 @@ reached t (call ∷ calls) (answer ∷ answers) = reached (moved t call answer) 
 
 module _ (m : ℕ) (c : ℕ → ℕ) where
   agrees_after :
-      (t : Track) (w serial : ℕ) (b : Bool) → eqb w (2 ^ m - 1) ≡ b → w < 2 ^ m → mark_of t ≡ suc w → length t.listed ≡ serial
-      → Memᴰ w t.listed → Agrees m (cond b Ended (Running w serial)) t
-  agrees_after t w serial true e h k l p = subst (λ x. Memᴰ x t.listed) (eqb-true w (2 ^ m - 1) e) p
-  agrees_after t w serial false e h k l p = (k, l, let n = eqb-false w (2 ^ m - 1) e in omega arith)
+      (t : Track) (set : Set) (serial : ℕ) (b : Bool) → eqb set.word (2 ^ m - 1) ≡ b → set.word < 2 ^ m → mark_of t ≡ suc set.word → length t.listed ≡ serial
+      → Memᴰ set.word t.listed → Agrees m (cond b Ended (Running set serial)) t
+  agrees_after t set serial true e h k l p = subst (λ x. Memᴰ x t.listed) (eqb-true set.word (2 ^ m - 1) e) p
+  agrees_after t set serial false e h k l p = (k, l, let n = eqb-false set.word (2 ^ m - 1) e in omega arith)
 
   -- a set is listed
   lists_moves :
       (t : Track) (set : Set) (serial trials : ℕ) (after : State) → Complete c t → (Full m t → ⊥)
-      → Lists m c (mark_of t) (length t.listed) set serial trials after → Moves m c t Step (Listed set serial trials) after
+      → Lists m c (mark_of t) (length t.listed) set serial trials after → Moves m c t Step (Ok (Listed set serial trials)) after
   lists_moves t set serial trials after old goes f =
       let w = set.word in
-      let more = moved t Step (Listed set serial trials) in
+      let more = moved t Step (Ok (Listed set serial trials)) in
       let count : length more.listed ≡ serial = length-append t.listed (w ∷ []) ∙ sym f.next in
       record {
         right = record { goes_further = goes; width = f.width; least = f.least; number = f.next; tried = f.tried };
         complete = subst (λ x. Listing (Closed c) t.start x more.listed) (sym (past_push t.start t.listed w))
             (closed_push m c (past_above t.start t.listed old.rising old.above) old f.least);
         agrees = subst (λ x. Agrees m x more) (sym f.left)
-            (agrees_after more w serial (eqb w (2 ^ m - 1)) refl f.least.below (past_push t.start t.listed w) count (pushed t.listed w));
+            (agrees_after more set serial (eqb w (2 ^ m - 1)) refl f.least.below (past_push t.start t.listed w) count (pushed t.listed w));
       }
 
   -- the survey begins anew
   begins_moves :
-      (t : Track) (call : Call) (start : ℕ) (answer : Answer) (after : State) → Right m c t call Moved
-      → moved t call Moved ≡ fresh start → answer ≡ Moved → after ≡ Fresh start → Moves m c t call answer after
-  begins_moves t call start answer after right anew a s =
-      subst (λ x. Moves m c t call x after) (sym a)
+      (t : Track) (call : Call) (start : ℕ) (answer : Answer) (after : State) → Right m c t call (Ok Moved)
+      → moved t call (Ok Moved) ≡ fresh start → answer ≡ Ok Moved → FreshAt start after → Moves m c t call answer after
+  begins_moves t call start answer (Running last serial) right anew a s = absurd s
+  begins_moves t call start answer Ended right anew a s = absurd s
+  begins_moves t call start answer (Fresh set) right anew a s =
+      subst (λ x. Moves m c t call x (Fresh set)) (sym a)
       record {
         right = right;
         complete = subst (λ x. Complete c x) (sym anew) (listing_none (Closed c) start);
-        agrees = subst (λ x. Agrees m x (moved t call Moved)) (sym s) anew;
+        agrees = anew ∙ ap fresh (sym s);
       }
 
   -- a call is refused
   refuses_moves :
-      (t : Track) (call : Call) (fault : SetFault) (before after : State) → Right m c t call (Refused fault) → Complete c t → Agrees m before t
-      → after ≡ before → Moves m c t call (Refused fault) after
+      (t : Track) (call : Call) (fault : SetFault) (before after : State) → Right m c t call (Err fault) → Complete c t → Agrees m before t
+      → after ≡ before → Moves m c t call (Err fault) after
   refuses_moves t call fault before after right old agrees s =
       record { right = right; complete = old; agrees = subst (λ x. Agrees m x t) (sym s) agrees }
 
   pub moves :
       (t : Track) (call : Call) (before : State) (answer : Answer) (after : State) → Does m m c call before answer after
       → Complete c t → Agrees m before t → Moves m c t call answer after
-  moves t Step (Fresh start) (Listed set serial trials) after d old e =
-      subst (λ x. Moves m c x Step (Listed set serial trials) after) (sym e)
-      (lists_moves (fresh start) set serial trials after (listing_none (Closed c) start) Memᴰ.not-nil (d refl))
-  moves t Step (Fresh start) Moved after d old e = absurd (d refl)
-  moves t Step (Fresh start) (Refused fault) after d old e = absurd (d refl)
-  moves t Step (Running last count) (Listed set serial trials) after d old a =
+  moves t Step (Fresh start) (Ok (Listed set serial trials)) after d old e =
+      subst (λ x. Moves m c x Step (Ok (Listed set serial trials)) after) (sym e)
+      (lists_moves (fresh start.word) set serial trials after (listing_none (Closed c) start.word) Memᴰ.not-nil (d refl))
+  moves t Step (Fresh start) (Ok Moved) after d old e = absurd (d refl)
+  moves t Step (Fresh start) (Err fault) after d old e = absurd (d refl)
+  moves t Step (Running last count) (Ok (Listed set serial trials)) after d old a =
       lists_moves t set serial trials after old (λ p. omega (arith, old.below (2 ^ m - 1) p, a.0, a.2))
       (subst (λ x. Lists m c x (length t.listed) set serial trials after) (sym a.0)
-      (subst (λ x. Lists m c (suc last) x set serial trials after) (sym a.1) (d refl)))
-  moves t Step (Running last count) Moved after d old a = absurd (d refl)
-  moves t Step (Running last count) (Refused fault) after d old a = absurd (d refl)
-  moves t Step Ended (Listed set serial trials) after d old a = absurd d
-  moves t Step Ended Moved after d old a = absurd d
-  moves t Step Ended (Refused fault) after d old a = refuses_moves t Step fault Ended after (a, d.0) old a d.1
+      (subst (λ x. Lists m c (suc last.word) x set serial trials after) (sym a.1) (d refl)))
+  moves t Step (Running last count) (Ok Moved) after d old a = absurd (d refl)
+  moves t Step (Running last count) (Err fault) after d old a = absurd (d refl)
+  moves t Step Ended (Ok granted) after d old a = absurd d
+  moves t Step Ended (Err fault) after d old a = refuses_moves t Step fault Ended after (a, d.0) old a d.1
   moves t (Seek set) before answer after d old a = at (ℕ_discrete set.width m) answer d.0 d.1
     where
       at :
@@ -117,9 +118,8 @@ module _ (m : ℕ) (c : ℕ → ℕ) where
           → ((set.width ≡ m → ⊥) → Refuses 13 before answer after) → Moves m c t (Seek set) answer after
       at (yes e) answer granted refused =
           begins_moves t (Seek set) set.word answer after e refl (granted e).0 (granted e).1
-      at (no n) (Listed _ serial trials) granted refused = absurd (refused n)
-      at (no n) Moved granted refused = absurd (refused n)
-      at (no n) (Refused fault) granted refused =
+      at (no n) (Ok _) granted refused = absurd (refused n)
+      at (no n) (Err fault) granted refused =
           refuses_moves t (Seek set) fault before after (n, (refused n).0) old a (refused n).1
   moves t Rewind before answer after d old a = begins_moves t Rewind 0 answer after tt refl d.0 d.1
 
@@ -155,8 +155,10 @@ pub record Ran (m : ℕ) (c : ℕ → ℕ) (calls : List Call) (answers : List A
   pub agrees : Agrees m state (reached (fresh 0) calls answers)
 
 module _ (m : ℕ) (c : ℕ → ℕ) where
-  pub ran_none : Ran m c [] [] (Fresh 0)
-  ran_none = record { law = listing_none (Closed c) 0; agrees = refl }
+  pub ran_none : (state : State) → FreshAt 0 state → Ran m c [] [] state
+  ran_none (Fresh start) at = record { law = listing_none (Closed c) 0; agrees = ap fresh (sym at) }
+  ran_none (Running last serial) at = absurd at
+  ran_none Ended at = absurd at
 
   pub ran_more :
       (calls : List Call) (answers : List Answer) (call : Call) (answer : Answer) (before after : State) → Ran m c calls answers before

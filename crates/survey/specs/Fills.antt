@@ -9,10 +9,14 @@ use Rattle.tray.specs.Tray.{max_entries}
 abbrev pub words_of : List Set → List ℕ
 words_of sets = map (λ s. s.word) sets
 
+-- the words of all closed sets of m signals, in the lectic order
+abbrev pub all_closed : (m : ℕ) (c : ℕ → ℕ) → List ℕ
+all_closed m c = closed_below c (2 ^ m)
+
 -- at the front of the memory stand the closed sets of m signals that fit, and the rest is as before
 pub record Filled (m : ℕ) (c : ℕ → ℕ) (before after : List Set) : Type 0 where
   pub kept : List Set
   pub front : take (length kept) after ≡ kept
   pub rest : drop (length kept) after ≡ drop (length kept) before
-  pub words : words_of kept ≡ take (min (length before) max_entries) (closed_below c (2 ^ m))
+  pub words : words_of kept ≡ take (min (length before) max_entries) (all_closed m c)
   pub widths : AllByRecursion (λ s. s.width ≡ m) kept

@@ -3,13 +3,13 @@
 --   m, c     the width and the closure of the operator
 --   track    the latest start, and the sets listed since, as words and in the order of the answers
 --   law      each answer is right, and at each place of the list of calls the track is complete
-use Rattle.std.specs.Prelude.{◌≡◌, ℕ, suc, ◌+◌, ◌-◌, ◌^◌, ◌≤◌, List, [], ◌∷◌, ◌++◌, length}
+use Rattle.std.specs.Prelude.{Ok, Err, ◌≡◌, ℕ, suc, ◌+◌, ◌-◌, ◌^◌, ◌≤◌, List, [], ◌∷◌, ◌++◌, length}
 use mathlib.Core.List.{Memᴰ}
 use Rattle.fault.specs.Layers.{in_sets}
 use Rattle.sets.specs.declared.set.Set.{Set}
 use Rattle.sets.specs.Fault.{fault_of}
-use Rattle.survey.specs.declared.call.Answer.{Answer}
-use Rattle.survey.specs.declared.call.Answer.TheVariants.{Listed, Moved, Refused}
+use Rattle.survey.specs.States.{Answer}
+use Rattle.survey.specs.declared.call.Granted.TheVariants.{Listed, Moved}
 use Rattle.survey.specs.declared.call.Call.{Call}
 use Rattle.survey.specs.declared.call.Call.TheVariants.{Step, Seek, Rewind}
 use Rattle.theory.specs.Closures.{Closed, LeastClosed, Listing}
@@ -40,9 +40,9 @@ start_of Rewind = 0
 
 -- a set that is answered is listed, a call that is granted without one begins anew, and a refused one changes nothing
 abbrev pub moved : Track → Call → Answer → Track
-moved t call (Listed set serial trials) = record { start = t.start; listed = t.listed ++ set.word ∷ [] }
-moved t call Moved = fresh (start_of call)
-moved t call (Refused fault) = t
+moved t call (Ok (Listed set serial trials)) = record { start = t.start; listed = t.listed ++ set.word ∷ [] }
+moved t call (Ok Moved) = fresh (start_of call)
+moved t call (Err fault) = t
 
 -- the full set is among the listed
 abbrev pub Full : (m : ℕ) → Track → Type 0
@@ -58,15 +58,15 @@ pub record Next (m : ℕ) (c : ℕ → ℕ) (t : Track) (set : Set) (serial tria
 
 -- the answer to a call is right
 abbrev pub Right : (m : ℕ) (c : ℕ → ℕ) → Track → Call → Answer → Type 0
-Right m c t Step (Listed set serial trials) = Next m c t set serial trials
-Right m c t Step Moved = ⊥
-Right m c t Step (Refused fault) = Full m t × (fault_of fault ≡ in_sets 14)
-Right m c t (Seek set) (Listed _ serial trials) = ⊥
-Right m c t (Seek set) Moved = set.width ≡ m
-Right m c t (Seek set) (Refused fault) = (set.width ≡ m → ⊥) × (fault_of fault ≡ in_sets 13)
-Right m c t Rewind (Listed set serial trials) = ⊥
-Right m c t Rewind Moved = Unit {0}
-Right m c t Rewind (Refused fault) = ⊥
+Right m c t Step (Ok (Listed set serial trials)) = Next m c t set serial trials
+Right m c t Step (Ok Moved) = ⊥
+Right m c t Step (Err fault) = Full m t × (fault_of fault ≡ in_sets 14)
+Right m c t (Seek set) (Ok (Listed _ serial trials)) = ⊥
+Right m c t (Seek set) (Ok Moved) = set.width ≡ m
+Right m c t (Seek set) (Err fault) = (set.width ≡ m → ⊥) × (fault_of fault ≡ in_sets 13)
+Right m c t Rewind (Ok (Listed set serial trials)) = ⊥
+Right m c t Rewind (Ok Moved) = Unit {0}
+Right m c t Rewind (Err fault) = ⊥
 
 -- the listed sets are all closed sets from the start to the last one listed, each once, in the lectic order
 abbrev pub Complete : (c : ℕ → ℕ) → Track → Type 0

@@ -12,9 +12,9 @@ pub enum Call {
     Rewind,
 }
 
-// What a survey answers.
+// What a survey grants.
 #[derive(Clone, Copy, PartialEq, Eq, Debug)]
-pub enum Answer {
+pub enum Granted {
     // A step lists the set, with its number since the start and the number of signals tried.
     Listed {
         set: Set,
@@ -23,6 +23,7 @@ pub enum Answer {
     },
     // The survey has begun anew.
     Moved,
-    // The call is refused, and all is as before.
-    Refused(SetFault),
 }
+
+// What a survey answers: what it grants, or why the call is refused and all is as before.
+pub type Answer = Result<Granted, SetFault>;

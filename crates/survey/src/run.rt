@@ -8,7 +8,7 @@ use std::alloc::{AllocError, Global};
 
 // Opens a survey of the operator, makes the calls one after another, and gives their answers.
 pub fn run<O: Operator + Drop>(
-    heap: Global,
+    alloc: Global,
     operator: O,
     calls: &[Call],
 ) -> Result<Vec<Answer>, AllocError>
@@ -16,7 +16,8 @@ pub fn run<O: Operator + Drop>(
         calls.now answers.items) }
 {
     let mut survey = Survey::open(operator);
-    let mut answers = Vec::new(heap);
+    let mut answers = Vec::new(alloc);
+    // A loop: of a chain whose closure changes the survey nothing is known afterwards.
     for call in calls {
         answers.push(survey.answer(*call))?;
     }

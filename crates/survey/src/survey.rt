@@ -1,5 +1,5 @@
-ghost use Rattle.std.specs.Prelude.{◌^◌, ◌<◌, ◌≤◌};
-ghost use Rattle.survey.specs.States.{sought_from, count_of};
+ghost use Rattle.std.specs.Prelude.{◌≡◌, ◌^◌, ◌<◌, ◌≤◌};
+ghost use Rattle.survey.specs.States.{count_of, sought_from, span_of};
 ghost use Rattle.theory.specs.Words.{max_signals};
 
 use crate::state::State;
@@ -13,6 +13,7 @@ pub struct Survey<O> {
     width: usize,
     state: State,
     ghost narrow: { width ≤ max_signals },
+    ghost spans: { span_of width state ≡ width },
     ghost within: { sought_from state < 2 ^ width },
     ghost counted: { count_of state ≤ sought_from state },
 }

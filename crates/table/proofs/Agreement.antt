@@ -2,19 +2,19 @@
 use Rattle.std.proofs.Common.{◌≡◌, ℕ, ◌+◌, ◌*◌, ◌^◌, ◌<◌, ◌≤◌, true, false, ltb, ◌⊎◌, List, [], ◌∷◌, ◌++◌, map, length, take, drop, Ok, Err, decimal, Result, sym, refl, ap, ◌∙◌, subst, inl, inr, arith}
 use Rattle.std.specs.List.{flat_map, AllByRecursion}
 use Rattle.std.proofs.lemmas.Fmt.{length-decimal-le}
+use Rattle.std.proofs.lemmas.Grind.{flat_map-append}
 use Rattle.std.proofs.lemmas.List.{append_assoc, length-append, length-take, length-drop, take-append-drop, take_at, drop_at}
 use Rattle.std.proofs.lemmas.Bool.{cond-false, ltb-false, le-ltb}
 use Rattle.table.specs.declared.faults.TableFault.{TableFault}
 use Rattle.table.specs.declared.faults.TableFault.TheVariants.{TooLong}
 use Rattle.table.specs.Names.{Name, part_at}
-use Rattle.table.specs.Reading.{and_then, Contents, head_of, body_of, read_of, answer_of, words_after, places_after, held}
+use Rattle.table.specs.Reading.{Head, and_then, Contents, head_of, body_of, read_of, answer_of, words_after, places_after, held}
 use Rattle.table.specs.declared.place.Place.{Place}
 use Rattle.table.specs.declared.read.Reading.{Reading}
-use Rattle.table.specs.declared.head.Head.{Head}
 use Rattle.table.specs.Tables.{Table, Lawful, line, cells, text_of}
 use Rattle.table.specs.Grammar.{Begins, Fitting, ReadAs, Grammar, ReadAgain}
 use Rattle.table.proofs.Bodies.{held_is}
-use Rattle.table.proofs.Spans.{Span, span_from, span_join, span_front, span_back, every_append, every_left, every_right, joined_append}
+use Rattle.table.proofs.Spans.{Span, span_from, span_join, span_front, span_back, every_append, every_left, every_right}
 use Rattle.table.proofs.Codecs.{Both, both_length, not_ok, cond_from, then_from, then_reads}
 use Rattle.table.proofs.Cells.{length_cells_at}
 use Rattle.table.proofs.NameLines.{NamedAt, Placed, named_parts, named_names, named_placed, names_long}
@@ -37,7 +37,7 @@ whole_text t =
     let g : ℕ = length t.words in
     let m : ℕ = length t.signal_names in
     let rows : List ℕ = flat_map (λ w. line (cells m w)) t.words in
-    ap (λ x. head_text g m ++ (x ++ rows)) (joined_append line t.row_names t.signal_names)
+    ap (λ x. head_text g m ++ (x ++ rows)) (flat_map-append line t.row_names t.signal_names)
     ∙ regroup (line (66 ∷ [])) (line []) (line (decimal g)) (line (decimal m)) (line []) (flat_map line t.row_names) (flat_map line t.signal_names) rows
 
 -- what the two sections were read as

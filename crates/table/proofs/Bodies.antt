@@ -3,10 +3,8 @@ use Rattle.std.proofs.Common.{◌≡◌, ℕ, zero, suc, ◌+◌, ◌≤◌, ltb
 use Rattle.std.proofs.lemmas.List.{take_at}
 use Rattle.std.proofs.lemmas.Bool.{cond-false, le-ltb}
 use Rattle.table.specs.declared.faults.TableFault.{TableFault}
-use Rattle.table.specs.declared.head.Head.{Head}
-use Rattle.table.specs.declared.lines.Taken.{Taken}
 use Rattle.table.specs.declared.place.Place.{Place}
-use Rattle.table.specs.Reading.{Item, Contents, line_at, lines_at, and_then, behind, name_item, row_item, head_of, body_of, read_of, filled, bytes_of, answer_of, words_after, places_after, held}
+use Rattle.table.specs.Reading.{Taken, Head, Item, Contents, line_at, lines_at, and_then, behind, name_item, row_item, head_of, body_of, read_of, filled, bytes_of, answer_of, words_after, places_after, held}
 
 -- as many values as lines
 counted_behind : {X : Type 0} (n : ℕ) (x : X) (r : Result (Taken (List X)) TableFault) (t : Taken (List X))

@@ -25,10 +25,15 @@ digit_more w d b one lt small =
     rw e (rw pow-suc (omega arith))
 
 -- what a loop over the cells keeps: what is left gives the answer, and the word has one binary digit for each cell read
-abbrev pub CellsRead : (line : ℕ) (cells : List ℕ) (word byte : ℕ) (xs : List ℕ) → Type 0
-CellsRead line cells word byte xs =
-    (cells_from line word byte xs ≡ cells_from line 0 1 cells)
-    × (1 ≤ byte) × (byte + length xs ≡ length cells + 1) × (word < 2 ^ (byte - 1))
+pub record CellsRead (line : ℕ) (cells : List ℕ) (word : ℕ) (left : List ℕ) : Type 0 where
+  pub byte : ℕ
+  pub first : 1 ≤ byte
+  pub count : byte + length left ≡ length cells + 1
+  pub rest : cells_from line word byte left ≡ cells_from line 0 1 cells
+  pub small : word < 2 ^ (byte - 1)
+
+pub cells_none : (line : ℕ) (cells : List ℕ) → CellsRead line cells 0 cells
+cells_none line cells = record { byte = 1; first = omega arith; count = omega arith; rest = refl; small = omega arith }
 
 -- the digit that a cell stands for, by its byte
 digit_by : (b d : ℕ) (x y : Bool) → eqb b 88 ≡ x → eqb b 46 ≡ y → Some d ≡ cond x (Some 1) (cond y (Some 0) None)
@@ -37,10 +42,11 @@ digit_by b d true y marked blank e = inl ((cc), eqb-true b 88 marked)
 digit_by b d false true marked blank e = inr ((cc), eqb-true b 46 blank)
 digit_by b d false false marked blank e = let z : ◌≡◌ {A = ℕ} 0 1 = cc in absurd (omega arith)
 
-pub cells_more : (line word d byte : ℕ) (cells xs : List ℕ) → 0 < length xs → CellsRead line cells word byte xs
+pub cells_more : (line word d : ℕ) (cells xs : List ℕ) → 0 < length xs → CellsRead line cells word xs
     → Some d ≡ cond (eqb (get_or xs 0 0) 88) (Some 1) (cond (eqb (get_or xs 0 0) 46) (Some 0) None)
-    → CellsRead line cells (word * 2 + d) (byte + 1) (between 1 (length xs) xs)
-cells_more line word d byte cells xs some (e, one, n, lt) is =
+    → CellsRead line cells (word * 2 + d) (between 1 (length xs) xs)
+cells_more line word d cells xs some r is =
+    let byte = r.byte in
     let step : cells_from line (word * 2 + d) (byte + 1) (between 1 (length xs) xs) ≡ cells_from line word byte xs =
     ⊎_elim (λ (h : (d ≡ 1) × (get_or xs 0 0 ≡ 88)). ap (λ k. cells_from line (word * 2 + k) (byte + 1) (between 1 (length xs) xs)) h.0 ∙ sym (cell_marked line word byte xs some h.1))
     (λ (h : (d ≡ 0) × (get_or xs 0 0 ≡ 46)). ap (λ k. cells_from line (word * 2 + k) (byte + 1) (between 1 (length xs) xs)) h.0
@@ -49,4 +55,10 @@ cells_more line word d byte cells xs some (e, one, n, lt) is =
     let small : d < 2 =
     ⊎_elim (λ (h : (d ≡ 1) × (get_or xs 0 0 ≡ 88)). omega arith) (λ (h : (d ≡ 0) × (get_or xs 0 0 ≡ 46)). omega arith)
     (digit_by (get_or xs 0 0) d _ _ refl refl is) in
-    (step ∙ e, omega arith, simp (length-take, length-drop) (omega arith), digit_more word d byte one lt small)
+    record {
+      byte = byte + 1;
+      first = omega arith;
+      count = simp (length-take, length-drop) (omega (arith, r.count));
+      rest = step ∙ r.rest;
+      small = digit_more word d byte r.first r.small small;
+    }

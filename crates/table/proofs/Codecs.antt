@@ -6,8 +6,7 @@ use Rattle.std.proofs.lemmas.Bool.{cond-false, ne_eqb, eqb-true}
 use Rattle.text.specs.declared.faults.FieldFault.{FieldFault}
 use Rattle.text.specs.Lines.{feed_from, line_end_of}
 use Rattle.table.specs.declared.faults.TableFault.{TableFault}
-use Rattle.table.specs.Reading.{and_then, raised, Item, line_at, lines_at, behind}
-use Rattle.table.specs.declared.lines.Taken.{Taken}
+use Rattle.table.specs.Reading.{Taken, and_then, raised, Item, line_at, lines_at, behind}
 use Rattle.table.specs.Tables.{line}
 use Rattle.table.proofs.Spans.{Span, span_from, span_join, span_front, span_back}
 

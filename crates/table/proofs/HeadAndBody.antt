@@ -2,15 +2,15 @@
 use Rattle.std.proofs.Common.{◌≡◌, ℕ, ◌+◌, ◌^◌, ◌<◌, ◌≤◌, true, false, ◌||◌, eqb, ltb, ◌⊎◌, List, [], ◌∷◌, ◌++◌, map, length, Ok, Err, decimal, Result, sym, refl, ap, ◌∙◌, subst, inl, inr, arith}
 use Rattle.std.specs.List.{flat_map, AllByRecursion}
 use Rattle.std.proofs.lemmas.List.{length-map}
+use Rattle.std.proofs.lemmas.List.Folds.{flat_map-map}
 use Rattle.std.proofs.lemmas.Bool.{cond-false, or_parts, or_from, ltb-false, le-ltb, eqb-true}
 use Rattle.table.specs.declared.faults.TableFault.{TableFault}
 use Rattle.table.specs.declared.faults.TableFault.TheVariants.{NotB, NoRoom}
 use Rattle.table.specs.declared.place.Place.{Place}
 use Rattle.table.specs.Names.{Name}
-use Rattle.table.specs.Reading.{line_at, lines_at, letter_item, empty_item, size_item, name_item, row_item, room_for, Contents, head_of, body_of}
-use Rattle.table.specs.declared.head.Head.{Head}
+use Rattle.table.specs.Reading.{Head, line_at, lines_at, letter_item, empty_item, size_item, name_item, row_item, room_for, Contents, head_of, body_of}
 use Rattle.table.specs.Tables.{line, cells}
-use Rattle.table.proofs.Spans.{Span, span_join, span_front, span_back, joined_map}
+use Rattle.table.proofs.Spans.{Span, span_join, span_front, span_back}
 use Rattle.table.proofs.Codecs.{Both, LinesRead, not_ok, cond_from, then_from, then_reads, both_length, line_from, line_reads, lines_from, lines_reads}
 use Rattle.table.proofs.Cells.{Row, RowOf, row_codec, rows_are, rows_narrow, rows_good, rows_only}
 use Rattle.table.proofs.Sizes.{size_read, size_free, size_from}
@@ -139,7 +139,7 @@ body_from text h c r =
     let lb : LinesRead text (RowOf m) g a.0.next b.0 = lines_from text (row_item m) (Row m) (RowOf m) (row_codec text m) g (6 + (g + m)) a.0.next b.0 b.1 in
     let words : List ℕ = b.0.value in
     let same : ◌≡◌ {A = Contents} (record { words = words; places = a.0.value; signals = m; bytes = b.0.next }) c = cc b.2 in
-    let joins : flat_map line lb.lines ≡ flat_map (λ w. line (cells m w)) words = ap (flat_map line) (rows_are m words lb.lines lb.read) ∙ joined_map line (cells m) words in
+    let joins : flat_map line lb.lines ≡ flat_map (λ w. line (cells m w)) words = ap (flat_map line) (rows_are m words lb.lines lb.read) ∙ flat_map-map line (cells m) words in
     let sb : Span text a.0.next (flat_map (λ w. line (cells m w)) words) b.0.next = subst (λ x. Span text a.0.next x b.0.next) joins lb.span in
     subst (BodyRead text h) same
     (record {
@@ -164,7 +164,7 @@ body_reads text h names words next many good rows narrow s =
     let mid : ℕ = h.next + length (flat_map line names) in
     let sa : Span text h.next (flat_map line names) mid = span_front text h.next next (flat_map line names) cell_lines s in
     let sb : Span text mid cell_lines next = span_back text h.next next (flat_map line names) cell_lines s in
-    let sc : Span text mid (flat_map line (map (cells m) words)) next = subst (λ x. Span text mid x next) (sym (joined_map line (cells m) words)) sb in
+    let sc : Span text mid (flat_map line (map (cells m) words)) next = subst (λ x. Span text mid x next) (sym (flat_map-map line (cells m) words)) sb in
     let a = lines_reads text name_item Name (NamedAt text) (name_codec text) names 6 h.next mid good sa in
     let b = lines_reads text (row_item m) (Row m) (RowOf m) (row_codec text m) (map (cells m) words) (6 + (g + m)) mid next (rows_good m words narrow) sc in
     let ea : lines_at name_item (g + m) 6 h.next text ≡ Ok (record { value = a.0; next = mid }) =

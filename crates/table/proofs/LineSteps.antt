@@ -1,9 +1,8 @@
--- The step and the end of the reading of several lines, each as an item.
-use Rattle.std.proofs.Common.{◌≡◌, ℕ, suc, ◌+◌, ◌-◌, ◌<◌, ◌≤◌, List, [], ◌∷◌, ◌++◌, length, take, set, Ok, Err, Result, sym, refl, ap, ◌∙◌, append_assoc, append-nil, add_assoc, arith}
+-- The step of the reading of several lines, each as an item.
+use Rattle.std.proofs.Common.{◌≡◌, ℕ, suc, ◌+◌, ◌-◌, ◌<◌, List, [], ◌∷◌, ◌++◌, length, take, set, Ok, Err, Result, sym, refl, ap, ◌∙◌, append_assoc, add_assoc, arith}
 use Rattle.std.proofs.lemmas.List.{take_more_set}
 use Rattle.table.specs.declared.faults.TableFault.{TableFault}
-use Rattle.table.specs.declared.lines.Taken.{Taken}
-use Rattle.table.specs.Reading.{Item, line_at, lines_at, and_then, behind}
+use Rattle.table.specs.Reading.{Taken, Item, line_at, lines_at, and_then, behind}
 
 -- what was read before, and then the rest
 abbrev pub before : {X : Type 0} → List X → Result (Taken (List X)) TableFault → Result (Taken (List X)) TableFault
@@ -14,10 +13,6 @@ before_behind : {X : Type 0} (xs : List X) (x : X) (r : Result (Taken (List X)) 
     → before xs (and_then r (λ rest. Ok (behind x rest))) ≡ before (xs ++ x ∷ []) r
 before_behind xs x (Ok t) = ap (λ ys. Ok (record { value = ys; next = t.next })) (sym (append_assoc xs (x ∷ []) t.value))
 before_behind xs x (Err e) = refl
-
-pub before_none : {X : Type 0} (r : Result (Taken (List X)) TableFault) → before [] r ≡ r
-before_none (Ok t) = refl
-before_none (Err e) = refl
 
 module _ {X : Type 0} (item : Item X) (text : List ℕ) (count line i at : ℕ) (xs : List X) where
   -- one line more
@@ -30,19 +25,6 @@ module _ {X : Type 0} (item : Item X) (text : List ℕ) (count line i at : ℕ) 
       ∙ before_behind xs t.value (lines_at item (count - (i + 1)) (line + i + 1) t.next text)
       ∙ ap (λ l. before (xs ++ t.value ∷ []) (lines_at item (count - (i + 1)) l t.next text)) (add_assoc line i 1)
 
-  -- a line that is refused
-  pub lines_stop : i < count → (e : TableFault) → line_at item (line + i) at text ≡ Err e → before xs (lines_at item (count - i) (line + i) at text) ≡ Err e
-  lines_stop lt e is =
-      let n : count - i ≡ suc (count - (i + 1)) = omega arith in
-      ap (λ k. before xs (lines_at item k (line + i) at text)) n
-      ∙ ap (λ r. before xs (and_then r (λ first. and_then (lines_at item (count - (i + 1)) (line + i + 1) first.next text) (λ rest. Ok (behind first.value rest))))) is
-
-  -- no line is left
-  pub lines_all : count ≤ i → before xs (lines_at item (count - i) (line + i) at text) ≡ Ok (record { value = xs; next = at })
-  lines_all le =
-      let n : count - i ≡ 0 = omega arith in
-      ap (λ k. before xs (lines_at item k (line + i) at text)) n ∙ ap (λ ys. Ok (record { value = ys; next = at })) (append-nil xs)
-
 -- what a loop over the lines keeps: the memory begins with what was read, and what is left gives the answer
 abbrev pub Going : {X : Type 0} → Item X → (text : List ℕ) (count line from i at : ℕ) (memory : List X) → Type 0
 Going item text count line from i at memory = before (take i memory) (lines_at item (count - i) (line + i) at text) ≡ lines_at item count line from text
@@ -53,11 +35,3 @@ module _ {X : Type 0} (item : Item X) (text : List ℕ) (count line from i at : 
   going_more lt room so t e =
       ap (λ ys. before ys (lines_at item (count - (i + 1)) (line + (i + 1)) t.next text)) (take_more_set memory i t.value room)
       ∙ sym (lines_more item text count line i at (take i memory) lt t e) ∙ so
-
-  pub going_stop : i < count → Going item text count line from i at memory → (e : TableFault) → line_at item (line + i) at text ≡ Err e
-      → lines_at item count line from text ≡ Err e
-  going_stop lt so e is = sym so ∙ lines_stop item text count line i at (take i memory) lt e is
-
-  pub going_all : count ≡ i → i ≤ length memory → Going item text count line from i at memory
-      → lines_at item count line from text ≡ Ok (record { value = take i memory; next = at })
-  going_all all room so = sym so ∙ lines_all item text count line i at (take i memory) (omega arith)

@@ -9,13 +9,11 @@ use Rattle.text.specs.Lines.{feed_from, line_end_of}
 use Rattle.text.specs.Numbers.{digits_from, zero_then, number_of}
 use Rattle.table.specs.declared.faults.TableFault.{TableFault}
 use Rattle.table.specs.declared.faults.TableFault.TheVariants.{TooLong, NotB, TooMany, NoRoom, CellCount}
-use Rattle.table.specs.declared.head.Head.{Head}
-use Rattle.table.specs.declared.lines.Taken.{Taken}
 use Rattle.table.specs.declared.place.Place.{Place}
 use Rattle.table.specs.declared.read.Reading.{Reading}
 use Rattle.table.specs.Faults.{fault_of}
 use Rattle.table.specs.Names.{name_byte, wrong_from, wrong_byte_of}
-use Rattle.table.specs.Reading.{and_then, raised, Item, line_at, lines_at, behind, letter_item, empty_item, size_item, placed, name_item, cells_from, row_item, Contents, room_for, head_of, body_of, read_of, answer_of}
+use Rattle.table.specs.Reading.{Taken, Head, and_then, raised, Item, line_at, lines_at, behind, letter_item, empty_item, size_item, placed, name_item, cells_from, row_item, Contents, room_for, head_of, body_of, read_of, answer_of}
 
 -- a value of which P holds, or a fault of a field that is near
 abbrev NearField : {X : Type 0} → (X → Type 0) → Result X FieldFault → Type 0
@@ -154,10 +152,6 @@ read_near text rr pr =
     cond_both (ltb 65000 (length text)) (Err TooLong) (and_then (head_of text rr pr) (body_of text)) (NearOr (Any Contents))
     (λ _. record { line = omega arith; byte = omega arith })
     (λ _. then_near Few (Any Contents) (head_of text rr pr) (body_of text) (head_near text rr pr) (body_near text))
-
--- every refusal of reading is near
-pub near_refused : (text : List ℕ) (rr pr : ℕ) (e : TableFault) → read_of text rr pr ≡ Err e → Near (fault_of e)
-near_refused text rr pr e is = subst (NearOr (Any Contents)) is (read_near text rr pr)
 
 told_near : (r : Result Contents TableFault) → NearOr (Any Contents) r → IfErr (answer_of r) (λ e. Near (fault_of e))
 told_near (Ok c) p = tt

@@ -5,8 +5,6 @@ use Rattle.text.specs.Lines.{line_end_of}
 use Rattle.text.specs.Numbers.{number_of}
 use Rattle.table.specs.declared.faults.TableFault.{TableFault}
 use Rattle.table.specs.declared.faults.TableFault.TheVariants.{Field, TooLong, NotB, NotEmpty, TooMany, NoRoom, NotName, CellCount, NotCell}
-use Rattle.table.specs.declared.head.Head.{Head}
-use Rattle.table.specs.declared.lines.Taken.{Taken}
 use Rattle.table.specs.declared.place.Place.{Place}
 use Rattle.table.specs.declared.read.Reading.{Reading}
 use Rattle.table.specs.Names.{wrong_byte_of}
@@ -24,6 +22,11 @@ raised (Err e) = Err (Field e)
 -- an item is what a line must be: from its number, the position of its first byte and its bytes, a value or a fault
 abbrev pub Item : Type 0 → Type 0
 Item X = (line at : ℕ) → List ℕ → Result X TableFault
+
+-- a value that was read, and the position behind its last line
+pub record Taken (X : Type 0) : Type 0 where
+  pub value : X
+  pub next : ℕ
 
 -- the line at a position, read as an item
 abbrev pub line_at : {X : Type 0} → Item X → (line at : ℕ) → List ℕ → Result (Taken X) TableFault
@@ -94,6 +97,12 @@ pub record Contents : Type 0 where
 abbrev pub room_for : (rows signals row_room place_room : ℕ) → Result (Unit {0}) TableFault
 room_for g m row_room place_room = cond (nat_lt row_room g || nat_lt place_room (g + m)) (Err NoRoom) (Ok tt)
 
+-- what the first five lines give: the numbers of rows and signals, and the position of the names
+pub record Head : Type 0 where
+  pub rows : ℕ
+  pub signals : ℕ
+  pub next : ℕ
+
 -- the first five lines, and the room that they ask for
 abbrev pub head_of : List ℕ → (row_room place_room : ℕ) → Result Head TableFault
 head_of text row_room place_room =
@@ -116,6 +125,10 @@ body_of text h =
 abbrev pub read_of : List ℕ → (row_room place_room : ℕ) → Result Contents TableFault
 read_of text row_room place_room =
     cond (nat_lt 65000 (length text)) (Err TooLong) (and_then (head_of text row_room place_room) (body_of text))
+
+-- what reading a text into row words and name places answers
+abbrev pub read_into : (text words : List ℕ) → List Place → Result Contents TableFault
+read_into text words places = read_of text (length words) (length places)
 
 -- where the table's text ends
 abbrev pub bytes_of : Result Contents TableFault → Result ℕ TableFault

@@ -3,6 +3,7 @@ ghost use Rattle.table.specs.Faults.{fault_of};
 ghost use Rattle.table.specs.declared.faults.TableFault.TheVariants.{Field};
 
 use fault::Fault;
+use fault::refusal::Refusal;
 use text::faults::FieldFault;
 
 // Why a table text is refused.
@@ -28,11 +29,11 @@ pub enum TableFault {
     NotCell { line: usize, byte: usize },
 }
 
-impl TableFault {
-    // Tells the refusal's letter, number, line and byte.
-    pub fn fault(&self) -> Fault
-        ensures { result ≡ fault_of self.now }
-    {
+impl Refusal for TableFault {
+    ghost tells = { fault_of };
+
+    // What the refusal tells; that of a field is passed up whole.
+    fn fault(&self) -> Fault {
         let (number, line, byte) = match *self {
             TableFault::Field(inner) => return inner.fault(),
             TableFault::TooLong => (31, 1, 1),
@@ -44,15 +45,11 @@ impl TableFault {
             TableFault::CellCount { line } => (39, line, 1),
             TableFault::NotCell { line, byte } => (40, line, byte),
         };
-        Fault {
-            letter: b'T',
-            number,
-            line,
-            byte,
-        }
+        Fault::in_text(b'T', number, line, byte)
     }
 }
 
+// Each `From` is by hand: a derived one would have no contract, and clauses name the refusal.
 impl From<FieldFault> for TableFault {
     ghost from_gives = { λ e r. r ≡ Field e };
 

@@ -2,12 +2,13 @@
 
 #![tactic(auto)]
 
+mod counts;
 pub mod faults;
 mod head;
+mod item;
 pub mod limits;
 mod lines;
 pub mod name;
 pub mod place;
 pub mod read;
 mod row;
-mod sections;

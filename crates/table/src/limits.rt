@@ -1,3 +1,5 @@
+use theory::MAX_SIGNALS;
+
 // The most bytes that a text has.
 pub const MAX_TEXT: usize = 65_000;
 
@@ -5,4 +7,4 @@ pub const MAX_TEXT: usize = 65_000;
 pub const MAX_ROWS: usize = 512;
 
 // The most names that a table has, of rows and of signals.
-pub const MAX_NAMES: usize = 572;
+pub const MAX_NAMES: usize = MAX_ROWS + MAX_SIGNALS;

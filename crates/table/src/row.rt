@@ -1,46 +1,48 @@
 ghost use Rattle.std.specs.Prelude.{◌≡◌, ◌≤◌, length, if◌then◌else◌, Some, None, nat_eq};
-ghost use Rattle.table.specs.Reading.{line_at, row_item, cells_from};
+ghost use Rattle.table.specs.Reading.{row_item, cells_from};
+ghost use Rattle.theory.specs.declared.TheConstants.{MAX_SIGNALS};
 
 use crate::faults::TableFault;
-use crate::lines::Taken;
-use text::line::line_end;
+use crate::item::LineItem;
+use crate::lines::Line;
+use theory::MAX_SIGNALS;
 
-// Reads a row as its word.
-pub(crate) fn row_line(
-    text: &[u8],
-    line: usize,
-    at: usize,
-    signals: usize,
-) -> Result<Taken<u64>, TableFault>
-    requires { signals ≤ 60 }
-    ensures { result ≡ line_at (row_item signals) line at text.now }
-{
-    let end = line_end(text, line, at)?;
-    let cells = &text[at..end];
-    if cells.len() != signals {
-        return Err(TableFault::CellCount { line });
+// A row of cells, one for each signal: its word.
+#[derive(Clone, Copy)]
+pub(crate) struct Row {
+    pub signals: usize,
+    ghost narrow: { signals ≤ MAX_SIGNALS },
+}
+
+impl LineItem for Row {
+    type Value = u64;
+
+    ghost item = { λ row. row_item row.signals };
+
+    fn read(&self, line: Line) -> Result<u64, TableFault> {
+        if line.bytes.len() != self.signals {
+            return Err(TableFault::CellCount { line: line.number });
+        }
+        row_word(line.bytes, line.number)
     }
-    let value = row_word(cells, line)?;
-    Ok(Taken {
-        value,
-        next: end + 1,
-    })
 }
 
 // Reads cells as a word: each is one more binary digit.
 fn row_word(cells: &[u8], line: usize) -> Result<u64, TableFault>
-    requires { length cells.now ≤ 60 }
+    requires { length cells.now ≤ MAX_SIGNALS }
     ensures { result ≡ cells_from line 0 1 cells.now }
 {
     let mut word = 0;
-    let mut byte = 1;
+    // A slice pattern takes the cells apart, as each line of a table is taken apart.
     let mut left = cells;
     while let [first, rest @ ..] = left {
         let Some(digit) = cell(*first) else {
-            return Err(TableFault::NotCell { line, byte });
+            return Err(TableFault::NotCell {
+                line,
+                byte: cells.len() - rest.len(),
+            });
         };
         word = word * 2 + digit;
-        byte += 1;
         left = rest;
     }
     Ok(word)

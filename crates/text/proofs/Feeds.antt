@@ -1,15 +1,26 @@
--- The step and the end of a search for a line feed.
-use Rattle.std.proofs.Common.{◌≡◌, ℕ, ◌+◌, ◌<◌, ◌≤◌, List, length, get_or, drop, Ok, Err, ◌∙◌}
-use Rattle.std.proofs.lemmas.List.{at_drop_more, at_drop_all}
-use Rattle.std.proofs.lemmas.Bool.{cond-true, cond-false, eq-eqb, ne_eqb}
+-- Where a line feed is found.
+use Rattle.std.proofs.Common.{◌≡◌, refl, sym, ap, ◌∙◌, ℕ, ◌+◌, Bool, true, false, cond, List, [], ◌∷◌, Some, None, Ok, Err, ◌==◌, Option, Result, arith}
+use Rattle.std.specs.List.{position, position_from}
+use Rattle.std.proofs.lemmas.Iterator.Adapters.{position_from-zero}
+use Rattle.text.specs.declared.faults.FieldFault.{FieldFault}
 use Rattle.text.specs.declared.faults.FieldFault.TheVariants.{NoLineFeed}
 use Rattle.text.specs.Lines.{feed_from}
 
-pub feed_here : (line i : ℕ) (xs : List ℕ) → i < length xs → get_or xs i 0 ≡ 10 → feed_from line i (drop i xs) ≡ Ok i
-feed_here line i xs lt e = at_drop_more (feed_from line i) xs i 0 lt ∙ cond-true _ _ _ (eq-eqb (get_or xs i 0) 10 e)
+-- the answer to where a line feed was found, in bytes that begin at position `at`
+abbrev pub at_feed : (line at : ℕ) → Option ℕ → Result ℕ FieldFault
+at_feed line at None = Err (NoLineFeed line)
+at_feed line at (Some k) = Ok (at + k)
 
-pub feed_more : (line i : ℕ) (xs : List ℕ) → i < length xs → (get_or xs i 0 ≡ 10 → ⊥) → feed_from line i (drop i xs) ≡ feed_from line (i + 1) (drop (i + 1) xs)
-feed_more line i xs lt ne = at_drop_more (feed_from line i) xs i 0 lt ∙ cond-false _ _ _ (ne_eqb (get_or xs i 0) 10 ne)
+feed_shifted : (line at k : ℕ) (xs : List ℕ) → feed_from line (at + k) xs ≡ at_feed line at (position_from (λ b. b == 10) k xs)
+feed_shifted line at k [] = refl
+feed_shifted line at k (x ∷ xs) = by (x == 10) (ap (λ i. feed_from line i xs) (omega arith) ∙ feed_shifted line at (k + 1) xs)
+  where
+    by : (b : Bool) → feed_from line (at + k + 1) xs ≡ at_feed line at (position_from (λ b. b == 10) (k + 1) xs)
+        → cond b (Ok (at + k)) (feed_from line (at + k + 1) xs) ≡ at_feed line at (cond b (Some k) (position_from (λ b. b == 10) (k + 1) xs))
+    by true rest = refl
+    by false rest = rest
 
-pub feed_none : (line i : ℕ) (xs : List ℕ) → length xs ≤ i → feed_from line i (drop i xs) ≡ Err (NoLineFeed line)
-feed_none line i xs le = at_drop_all (feed_from line i) xs i le
+pub feed_is : (line at : ℕ) (xs : List ℕ) → feed_from line at xs ≡ at_feed line at (position (λ b. b == 10) xs)
+feed_is line at xs =
+    ap (λ i. feed_from line i xs) (omega arith) ∙ feed_shifted line at 0 xs
+    ∙ sym (ap (at_feed line at) (position_from-zero (λ b. b == 10) xs))

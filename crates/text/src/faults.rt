@@ -1,7 +1,7 @@
-ghost use Rattle.std.specs.Prelude.{◌≡◌};
 ghost use Rattle.text.specs.Faults.{fault_of};
 
 use fault::Fault;
+use fault::refusal::Refusal;
 
 // Why a line or a field is refused.
 #[derive(Clone, Copy, PartialEq, Eq, Debug)]
@@ -12,24 +12,15 @@ pub enum FieldFault {
     NoNumber { line: usize, byte: usize },
 }
 
-impl FieldFault {
-    // Tells the refusal's letter, number, line and byte.
-    pub fn fault(&self) -> Fault
-        ensures { result ≡ fault_of self.now }
-    {
-        match *self {
-            FieldFault::NoLineFeed { line } => Fault {
-                letter: b'F',
-                number: 32,
-                line,
-                byte: 1,
-            },
-            FieldFault::NoNumber { line, byte } => Fault {
-                letter: b'F',
-                number: 33,
-                line,
-                byte,
-            },
-        }
+impl Refusal for FieldFault {
+    ghost tells = { fault_of };
+
+    // What the refusal tells.
+    fn fault(&self) -> Fault {
+        let (number, line, byte) = match *self {
+            FieldFault::NoLineFeed { line } => (32, line, 1),
+            FieldFault::NoNumber { line, byte } => (33, line, byte),
+        };
+        Fault::in_text(b'F', number, line, byte)
     }
 }

@@ -3,5 +3,6 @@
 #![tactic(auto)]
 
 pub mod faults;
+pub mod find;
 pub mod line;
 pub mod number;

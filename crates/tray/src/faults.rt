@@ -1,7 +1,7 @@
-ghost use Rattle.std.specs.Prelude.{◌≡◌};
 ghost use Rattle.tray.specs.Fault.{fault_of};
 
 use fault::Fault;
+use fault::refusal::Refusal;
 
 // Why an entry was not put.
 #[derive(Clone, Copy, PartialEq, Eq, Debug)]
@@ -10,19 +10,13 @@ pub enum TrayFault {
     Full,
 }
 
-impl TrayFault {
+impl Refusal for TrayFault {
+    ghost tells = { fault_of };
+
     // What the refusal tells.
-    pub fn fault(&self) -> Fault
-        ensures told { result ≡ fault_of self.now }
-    {
-        let number = match self {
-            TrayFault::Full => 21,
-        };
-        Fault {
-            letter: b'C',
-            number,
-            line: 0,
-            byte: 0,
+    fn fault(&self) -> Fault {
+        match self {
+            TrayFault::Full => Fault::textless(b'C', 21),
         }
     }
 }

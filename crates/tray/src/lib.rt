@@ -2,10 +2,10 @@
 
 #![tactic(auto)]
 
-ghost use Rattle.std.specs.Prelude.{◌≡◌, ◌<◌, ◌≤◌, [], ◌∷◌, ◌++◌, length, drop, MatchOption, MatchResult, slice_index_or};
+ghost use Rattle.std.specs.Prelude.{◌≡◌, ◌<◌, ◌≤◌, [], ◌∷◌, ◌++◌, length, MatchOption, MatchResult, slice_index_or};
 ghost use Rattle.fault.specs.Layers.{in_trays};
 ghost use Rattle.tray.specs.Fault.{fault_of};
-ghost use Rattle.tray.specs.Tray.{capacity, entries};
+ghost use Rattle.tray.specs.Tray.{Kept, capacity, entries};
 
 use crate::faults::TrayFault;
 
@@ -77,9 +77,7 @@ impl<'a, T: Copy> Tray<'a, T> {
         ensures answer { MatchResult result
             (λ _. (length (entries self.old) < capacity self.old) × (entries self.new ≡ entries self.old ++ entry ∷ []))
             (λ fault. (length (entries self.old) ≡ capacity self.old) × (self.new ≡ self.old) × (fault_of fault ≡ in_trays 21)) }
-        ensures size { length self.new.memory.now ≡ length self.old.memory.now }
-        ensures past { drop (length (entries self.new)) self.new.memory.now ≡ drop (length (entries self.new)) self.old.memory.now }
-        ensures link { self.new.memory.ghost_name ≡ self.old.memory.ghost_name }
+        ensures kept { Kept self.old self.new }
     {
         let count = self.count();
         if count == self.capacity() {

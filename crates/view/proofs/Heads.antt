@@ -1,8 +1,10 @@
 -- The first five lines of a table text, put by put.
-use Rattle.std.proofs.Common.{◌≡◌, ℕ, ◌+◌, ◌≤◌, List, [], ◌∷◌, ◌++◌, length, Ok, decimal, Result, sym, ap, ◌∙◌, subst, append_assoc, zero-add, arith}
+use Rattle.std.proofs.Common.{◌≡◌, ℕ, ◌+◌, ◌≤◌, List, [], ◌∷◌, ◌++◌, length, decimal, Result, sym, subst, append_assoc}
 use Rattle.output.specs.declared.faults.OutputFault.{OutputFault}
-use Rattle.output.specs.Puts.{put_at, put_answer_of, after_put}
-use Rattle.output.proofs.Writing.{Wrote, wrote_answer, wrote_output, front_room}
+use Rattle.output.specs.declared.output.Output.{Output}
+use Rattle.output.specs.Outputs.{Grows, Puts}
+use Rattle.output.proofs.Growing.{grows_last}
+use Rattle.output.proofs.Writing.{front_room}
 use Rattle.view.specs.Texts.{head_text}
 
 abbrev pub letter : List ℕ
@@ -18,27 +20,26 @@ to_line g = to_rows g ++ 10 ∷ []
 abbrev pub to_signals : (g m : ℕ) → List ℕ
 to_signals g m = to_line g ++ decimal m
 
-pub head_is : (g m : ℕ) → to_signals g m ++ 10 ∷ 10 ∷ [] ≡ head_text g m
+head_is : (g m : ℕ) → to_signals g m ++ 10 ∷ 10 ∷ [] ≡ head_text g m
 head_is g m = simp append_assoc
 
 -- there is room for each step
-pub room_all : (g m n : ℕ) → length (head_text g m) ≤ n → 0 + length (to_signals g m ++ 10 ∷ 10 ∷ []) ≤ n
-room_all g m n room = subst (λ xs. 0 + length xs ≤ n) (sym (head_is g m)) (omega arith)
+module _ (g m at n : ℕ) (room : at + length (head_text g m) ≤ n) where
+  pub room_all : at + length (to_signals g m ++ 10 ∷ 10 ∷ []) ≤ n
+  room_all = subst (λ xs. at + length xs ≤ n) (sym (head_is g m)) room
 
-pub room_signals : (g m n : ℕ) → length (head_text g m) ≤ n → 0 + length (to_signals g m) ≤ n
-room_signals g m n room = front_room 0 n (to_signals g m) (10 ∷ 10 ∷ []) (room_all g m n room)
+  pub room_signals : at + length (to_signals g m) ≤ n
+  room_signals = front_room at n (to_signals g m) (10 ∷ 10 ∷ []) room_all
 
-pub room_line : (g m n : ℕ) → length (head_text g m) ≤ n → 0 + length (to_line g) ≤ n
-room_line g m n room = front_room 0 n (to_line g) (decimal m) (room_signals g m n room)
+  pub room_line : at + length (to_line g) ≤ n
+  room_line = front_room at n (to_line g) (decimal m) room_signals
 
-pub room_rows : (g m n : ℕ) → length (head_text g m) ≤ n → 0 + length (to_rows g) ≤ n
-room_rows g m n room = front_room 0 n (to_rows g) (10 ∷ []) (room_line g m n room)
+  pub room_rows : at + length (to_rows g) ≤ n
+  room_rows = front_room at n (to_rows g) (10 ∷ []) room_line
 
--- the last put answers where the head ends
-pub head_answer : (g m : ℕ) (before after : List ℕ) (end : ℕ) (r : Result ℕ OutputFault) → Wrote 0 (to_signals g m) before after end → length (head_text g m) ≤ length before
-    → r ≡ put_answer_of end (10 ∷ 10 ∷ []) after → r ≡ Ok (length (head_text g m))
-head_answer g m before after end r w room e = wrote_answer 0 (to_signals g m) (10 ∷ 10 ∷ []) before after end r w (room_all g m _ room) e ∙ ap (λ xs. Ok (0 + length xs)) (head_is g m) ∙ ap Ok (zero-add _)
+  pub room_letter : at + length letter ≤ n
+  room_letter = front_room at n letter (decimal g) room_rows
 
-pub head_output : (g m : ℕ) (before after later : List ℕ) (end : ℕ) → Wrote 0 (to_signals g m) before after end → length (head_text g m) ≤ length before
-    → later ≡ after_put end (10 ∷ 10 ∷ []) after → later ≡ put_at 0 (head_text g m) before
-head_output g m before after later end w room e = wrote_output 0 (to_signals g m) (10 ∷ 10 ∷ []) before after later end w (room_all g m _ room) e ∙ ap (λ xs. put_at 0 xs before) (head_is g m)
+-- the last put tells of the head
+pub head_puts : (g m : ℕ) (a b c : Output) (r : Result Unit OutputFault) → a.at + length (head_text g m) ≤ length a.bytes.now → Grows (to_signals g m) a b → Puts (10 ∷ 10 ∷ []) b r c → Puts (head_text g m) a r c
+head_puts g m a b c r room w p = subst (λ bs. Puts bs a r c) (head_is g m) (grows_last (to_signals g m) (10 ∷ 10 ∷ []) a b c r (room_all g m a.at (length a.bytes.now) room) w p)

@@ -1,36 +1,37 @@
 -- The parts of a table show a lawful table, and each place holds a name.
-use Rattle.std.proofs.Common.{◌≡◌, ℕ, zero, suc, ◌+◌, ◌-◌, ◌^◌, ◌<◌, ◌≤◌, min, Bool, true, false, not, ltb, leb, List, [], ◌∷◌, ◌++◌, map, length, get_or, take, drop, is_some, Some, None, Option, sym, refl, ap, ◌∙◌, subst, arith}
-use Rattle.std.specs.List.{AllByRecursion}
-use Rattle.std.proofs.lemmas.List.{length-map, length-take, length-take-le, length-drop, get_or_past, get_or-take, get_or-drop, take-append-drop}
+use Rattle.std.proofs.Common.{◌≡◌, ℕ, zero, suc, ◌+◌, ◌-◌, ◌^◌, ◌<◌, ◌≤◌, min, Bool, true, false, not, ◌&&◌, ltb, leb, List, [], ◌∷◌, map, length, get_or, take, drop, is_some, Some, None, Option, sym, refl, ap, ◌∙◌, subst, arith}
+use Rattle.std.specs.List.{AllByRecursion, list_all}
+use Rattle.std.proofs.lemmas.List.{length-map, length-take, length-take-le, length-drop, get_or-drop, take-append-drop}
+use Rattle.std.proofs.lemmas.List.Folds.{list_all-append}
 use Rattle.std.proofs.lemmas.Bool.{and_parts, and_from, not-true, leb-true, le-leb, ltb-true, lt-ltb, true≢false}
 use Rattle.table.specs.declared.place.Place.{Place}
 use Rattle.table.specs.Names.{Name, wrong_byte_of, part_at}
 use Rattle.table.specs.Tables.{Lawful}
-use Rattle.view.specs.Views.{every, holds_name_at, fit, table_of, absent, row_place, signal_place}
+use Rattle.view.specs.Views.{holds_name_at, fit, table_of, absent, signal_place}
 
 -- what a test says of each
-pub every_at : {X : Type 0} (test : X → Bool) (xs : List X) (i : ℕ) (d : X) → every test xs ≡ true → i < length xs → test (get_or xs i d) ≡ true
+pub every_at : {X : Type 0} (test : X → Bool) (xs : List X) (i : ℕ) (d : X) → list_all test xs ≡ true → i < length xs → test (get_or xs i d) ≡ true
 every_at test [] i d e lt = absurd (omega arith)
-every_at test (x ∷ xs) zero d e lt = (and_parts (test x) (every test xs) e).0
-every_at test (x ∷ xs) (suc i) d e lt = every_at test xs i d (and_parts (test x) (every test xs) e).1 (omega arith)
+every_at test (x ∷ xs) zero d e lt = (and_parts (test x) (list_all test xs) e).0
+every_at test (x ∷ xs) (suc i) d e lt = every_at test xs i d (and_parts (test x) (list_all test xs) e).1 (omega arith)
 
-pub every_take : {X : Type 0} (test : X → Bool) (n : ℕ) (xs : List X) → every test xs ≡ true → every test (take n xs) ≡ true
-every_take test zero xs e = refl
-every_take test (suc n) [] e = refl
-every_take test (suc n) (x ∷ xs) e = let h = and_parts (test x) (every test xs) e in and_from _ _ h.0 (every_take test n xs h.1)
+-- what holds of all holds of the first n and of the rest, and back
+pub every_cut : {X : Type 0} (test : X → Bool) (n : ℕ) (xs : List X) → list_all test xs ≡ (list_all test (take n xs) && list_all test (drop n xs))
+every_cut test n xs = ap (list_all test) (sym (take-append-drop n xs)) ∙ list_all-append test (take n xs) (drop n xs)
 
-pub every_drop : {X : Type 0} (test : X → Bool) (n : ℕ) (xs : List X) → every test xs ≡ true → every test (drop n xs) ≡ true
-every_drop test zero xs e = e
-every_drop test (suc n) [] e = refl
-every_drop test (suc n) (x ∷ xs) e = every_drop test n xs (and_parts (test x) (every test xs) e).1
+pub every_front : {X : Type 0} (test : X → Bool) (n : ℕ) (xs : List X) → list_all test xs ≡ true → list_all test (take n xs) ≡ true
+every_front test n xs e = (and_parts _ _ (sym (every_cut test n xs) ∙ e)).0
 
-pub every_says : {X Y : Type 0} (test : X → Bool) (f : X → Y) (P : Y → Type 0) → ((x : X) → test x ≡ true → P (f x)) → (xs : List X) → every test xs ≡ true → AllByRecursion P (map f xs)
+pub every_back : {X : Type 0} (test : X → Bool) (n : ℕ) (xs : List X) → list_all test xs ≡ true → list_all test (drop n xs) ≡ true
+every_back test n xs e = (and_parts _ _ (sym (every_cut test n xs) ∙ e)).1
+
+pub every_says : {X Y : Type 0} (test : X → Bool) (f : X → Y) (P : Y → Type 0) → ((x : X) → test x ≡ true → P (f x)) → (xs : List X) → list_all test xs ≡ true → AllByRecursion P (map f xs)
 every_says test f P says [] e = tt
-every_says test f P says (x ∷ xs) e = let h = and_parts (test x) (every test xs) e in (says x h.0, every_says test f P says xs h.1)
+every_says test f P says (x ∷ xs) e = let h = and_parts (test x) (list_all test xs) e in (says x h.0, every_says test f P says xs h.1)
 
-pub every_each : {X : Type 0} (test : X → Bool) (P : X → Type 0) → ((x : X) → test x ≡ true → P x) → (xs : List X) → every test xs ≡ true → AllByRecursion P xs
+pub every_each : {X : Type 0} (test : X → Bool) (P : X → Type 0) → ((x : X) → test x ≡ true → P x) → (xs : List X) → list_all test xs ≡ true → AllByRecursion P xs
 every_each test P says [] e = tt
-every_each test P says (x ∷ xs) e = let h = and_parts (test x) (every test xs) e in (says x h.0, every_each test P says xs h.1)
+every_each test P says (x ∷ xs) e = let h = and_parts (test x) (list_all test xs) e in (says x h.0, every_each test P says xs h.1)
 
 none_from : (o : Option ℕ) → is_some o ≡ false → o ≡ None
 none_from None e = refl
@@ -49,8 +50,8 @@ pub record Fit (text words : List ℕ) (places : List Place) : Type 0 where
   pub rows : length words ≤ 512
   pub enough : length words ≤ length places
   pub signals : length places - length words ≤ 60
-  pub narrow : every (λ w. ltb w (2 ^ (length places - length words))) words ≡ true
-  pub names : every (holds_name_at text) places ≡ true
+  pub narrow : list_all (λ w. ltb w (2 ^ (length places - length words))) words ≡ true
+  pub names : list_all (holds_name_at text) places ≡ true
 
 pub fit_parts : (text words : List ℕ) (places : List Place) → fit text words places ≡ true → Fit text words places
 fit_parts text words places e =
@@ -69,8 +70,8 @@ fit_lawful text words places e =
       rows = f.rows;
       signals = subst (λ n. n ≤ 60) (sym signals) f.signals;
       named = length-map (take (length words) places) (part_at text) ∙ length-take-le (length words) places f.enough;
-      row_named = every_says (holds_name_at text) (part_at text) Name (place_named text) (take (length words) places) (every_take (holds_name_at text) (length words) places f.names);
-      signal_named = every_says (holds_name_at text) (part_at text) Name (place_named text) (drop (length words) places) (every_drop (holds_name_at text) (length words) places f.names);
+      row_named = every_says (holds_name_at text) (part_at text) Name (place_named text) (take (length words) places) (every_front (holds_name_at text) (length words) places f.names);
+      signal_named = every_says (holds_name_at text) (part_at text) Name (place_named text) (drop (length words) places) (every_back (holds_name_at text) (length words) places f.names);
       narrow = subst (λ n. AllByRecursion (λ w. w < 2 ^ n) words) (sym signals) (every_each _ _ (λ w. ltb-true w _) words f.narrow);
     }
 
@@ -78,21 +79,17 @@ fit_lawful text words places e =
 abbrev inside : List ℕ → Place → Bool
 inside text p = leb (p.start + p.length) (length text)
 
-every_named : (text : List ℕ) (places : List Place) → every (inside text) places ≡ true → AllByRecursion Name (map (part_at text) places) → every (holds_name_at text) places ≡ true
+every_named : (text : List ℕ) (places : List Place) → list_all (inside text) places ≡ true → AllByRecursion Name (map (part_at text) places) → list_all (holds_name_at text) places ≡ true
 every_named text [] within named = refl
 every_named text (p ∷ ps) within named =
-    let h = and_parts (inside text p) (every (inside text) ps) within in
+    let h = and_parts (inside text p) (list_all (inside text) ps) within in
     and_from _ _ (and_from _ _ h.0 (ap (λ o. not (is_some o)) named.0)) (every_named text ps h.1 named.1)
 
-every_append : {X : Type 0} (test : X → Bool) (xs ys : List X) → every test xs ≡ true → every test ys ≡ true → every test (xs ++ ys) ≡ true
-every_append test [] ys a b = b
-every_append test (x ∷ xs) ys a b = let h = and_parts (test x) (every test xs) a in and_from _ _ h.0 (every_append test xs ys h.1 b)
-
-every_from : {X : Type 0} (test : X → Bool) (P : X → Type 0) → ((x : X) → P x → test x ≡ true) → (xs : List X) → AllByRecursion P xs → every test xs ≡ true
+every_from : {X : Type 0} (test : X → Bool) (P : X → Type 0) → ((x : X) → P x → test x ≡ true) → (xs : List X) → AllByRecursion P xs → list_all test xs ≡ true
 every_from test P says [] h = refl
 every_from test P says (x ∷ xs) h = and_from _ _ (says x h.0) (every_from test P says xs h.1)
 
-pub lawful_fit : (text words : List ℕ) (places : List Place) → every (λ p. leb (p.start + p.length) (length text)) places ≡ true → Lawful (table_of text words places) → fit text words places ≡ true
+pub lawful_fit : (text words : List ℕ) (places : List Place) → list_all (λ p. leb (p.start + p.length) (length text)) places ≡ true → Lawful (table_of text words places) → fit text words places ≡ true
 lawful_fit text words places within t =
     let g : ℕ = length words in
     let signals : length (map (part_at text) (drop g places)) ≡ length places - g = length-map (drop g places) (part_at text) ∙ length-drop g places in
@@ -102,25 +99,10 @@ lawful_fit text words places within t =
     (and_from _ _ (le-leb _ _ (omega arith))
     (and_from _ _ (le-leb _ _ (subst (λ n. n ≤ 60) signals t.signals))
     (and_from _ _ (every_from _ _ (λ w. lt-ltb w _) words narrow)
-    (subst (λ ps. every (holds_name_at text) ps ≡ true) (take-append-drop g places)
-    (every_append (holds_name_at text) (take g places) (drop g places)
-    (every_named text (take g places) (every_take (inside text) g places within) t.row_named)
-    (every_named text (drop g places) (every_drop (inside text) g places within) t.signal_named))))))
+    (every_cut (holds_name_at text) g places
+    ∙ and_from _ _ (every_named text (take g places) (every_front (inside text) g places within) t.row_named)
+    (every_named text (drop g places) (every_back (inside text) g places within) t.signal_named)))))
 
--- the name at one of the places lies inside the text
-pub fit_inside : (text words : List ℕ) (places : List Place) (i : ℕ) (d : Place) → fit text words places ≡ true → i < length places → (get_or places i d).start + (get_or places i d).length ≤ length text
-fit_inside text words places i d e lt = place_inside text (get_or places i d) (every_at (holds_name_at text) places i d (fit_parts text words places e).names lt)
-
--- where there is no such row or signal
-pub row_absent : (g i : ℕ) (places : List Place) → g ≤ i → absent ≡ row_place g places i
-row_absent g i places le = sym (get_or_past (take g places) i absent (subst (λ n. n ≤ i) (sym (length-take g places)) (omega arith)))
-
-pub signal_absent : (g i : ℕ) (places : List Place) → length places - g ≤ i → absent ≡ signal_place g places i
-signal_absent g i places le = sym (get_or_past (drop g places) i absent (subst (λ n. n ≤ i) (sym (length-drop g places)) le))
-
--- where there is one
-pub row_present : (g i : ℕ) (places : List Place) → i < g → get_or places i absent ≡ row_place g places i
-row_present g i places lt = sym (get_or-take g places i absent lt)
-
+-- the place of the name of a signal, among all places
 pub signal_present : (g i : ℕ) (places : List Place) → get_or places (g + i) absent ≡ signal_place g places i
 signal_present g i places = sym (get_or-drop g places i absent)

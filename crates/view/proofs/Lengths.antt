@@ -1,26 +1,25 @@
 -- The text of a table in its three parts, and its length.
-use Rattle.std.proofs.Common.{◌≡◌, ℕ, zero, suc, ◌+◌, ◌-◌, ◌*◌, ◌<◌, ◌≤◌, true, false, ◌&&◌, leb, ◌⊎◌, List, [], ◌∷◌, ◌++◌, map, length, get_or, take, drop, Some, decimal, sym, refl, ap, ◌∙◌, inl, inr, append_assoc, suc-mul, mul-le-mul, arith, length-append}
-use Rattle.std.specs.List.{flat_map}
-use Rattle.std.proofs.lemmas.List.{length-map, length-drop, take-append-drop}
+use Rattle.std.proofs.Common.{◌≡◌, ℕ, ◌+◌, ◌-◌, ◌*◌, ◌<◌, ◌≤◌, true, false, ◌&&◌, leb, ◌⊎◌, List, [], ◌∷◌, ◌++◌, map, length, get_or, take, drop, Some, decimal, sym, ap, ◌∙◌, inl, inr, append_assoc, suc-mul, arith, length-append}
+use Rattle.std.specs.List.{flat_map, list_all, sum_by}
+use Rattle.std.proofs.lemmas.Grind.{flat_map-append}
+use Rattle.std.proofs.lemmas.List.Folds.{flat_map-map}
+use Rattle.std.proofs.lemmas.List.Sums.{sum_by-cons}
+use Rattle.std.proofs.lemmas.List.{length-map, length-drop, length-take, take-append-drop}
 use Rattle.std.proofs.lemmas.Bool.{cases_Bool, cond-false, and_parts, leb-true}
 use Rattle.table.specs.declared.place.Place.{Place}
 use Rattle.table.specs.Names.{Name, wrong_byte_of, part_at}
-use Rattle.table.specs.Tables.{line, cells, cells_at}
+use Rattle.table.specs.Tables.{line, cells}
+use Rattle.table.proofs.Cells.{length_cells_at}
 use Rattle.view.specs.Views.{fit, holds_name_at}
 use Rattle.view.specs.Texts.{shown_text, head_text, names_text, rows_text}
-use Rattle.output.proofs.Joins.{joined_append, joined_step}
-use Rattle.view.proofs.Laws.{every_at, fit_parts, place_named}
-
-joined_map : {X Y : Type 0} (f : Y → List ℕ) (g : X → Y) (xs : List X) → flat_map f (map g xs) ≡ flat_map (λ x. f (g x)) xs
-joined_map f g [] = refl
-joined_map f g (x ∷ xs) = ap (λ ys. f (g x) ++ ys) (joined_map f g xs)
+use Rattle.view.proofs.Laws.{every_at, fit_parts, place_inside, place_named}
 
 -- the row names and then the signal names are the names at all places
 pub names_parts : (text : List ℕ) (places : List Place) (g : ℕ) → flat_map line (map (part_at text) (take g places)) ++ flat_map line (map (part_at text) (drop g places)) ≡ names_text text places
 names_parts text places g =
-    ap (λ xs. xs ++ flat_map line (map (part_at text) (drop g places))) (joined_map line (part_at text) (take g places))
-    ∙ ap (λ xs. flat_map (λ p. line (part_at text p)) (take g places) ++ xs) (joined_map line (part_at text) (drop g places))
-    ∙ sym (joined_append (λ p. line (part_at text p)) (take g places) (drop g places))
+    ap (λ xs. xs ++ flat_map line (map (part_at text) (drop g places))) (flat_map-map line (part_at text) (take g places))
+    ∙ ap (λ xs. flat_map (λ p. line (part_at text p)) (take g places) ++ xs) (flat_map-map line (part_at text) (drop g places))
+    ∙ sym (flat_map-append (λ p. line (part_at text p)) (take g places) (drop g places))
     ∙ ap (names_text text) (take-append-drop g places)
 
 regroup : (g m row_names signal_names rows : List ℕ)
@@ -37,15 +36,11 @@ text_parts text words places =
     ∙ ap (λ names. head_text (length words) (length (map (part_at text) (drop (length words) places))) ++ (names ++ rows_text (length (map (part_at text) (drop (length words) places))) words)) (names_parts text places (length words))
     ∙ ap (λ m. head_text (length words) m ++ (names_text text places ++ rows_text m words)) same
 
-length_cells : (m w i n : ℕ) → length (cells_at m w i n) ≡ n
-length_cells m w i zero = refl
-length_cells m w i (suc n) = ap suc (length_cells m w (i + 1) n)
-
 pub length_rows : (m : ℕ) (words : List ℕ) → length (rows_text m words) ≡ length words * (m + 1)
 length_rows m [] = omega arith
 length_rows m (w ∷ ws) =
     length-append (line (cells m w)) (rows_text m ws)
-    ∙ ap (λ n. n + length (rows_text m ws)) (length-append (cells m w) (10 ∷ []) ∙ ap (λ n. n + 1) (length_cells m w 0 m))
+    ∙ ap (λ n. n + length (rows_text m ws)) (length-append (cells m w) (10 ∷ []) ∙ ap (λ n. n + 1) (length_cells_at m w 0 m))
     ∙ ap (λ n. m + 1 + n) (length_rows m ws)
     ∙ omega (arith, suc-mul (length ws) (m + 1))
 
@@ -75,17 +70,24 @@ pub text_sum : (text words : List ℕ) (places : List Place) (g m a b n : ℕ) �
     → 6 + a + b + n + g * (m + 1) ≡ length (shown_text text words places)
 text_sum text words places g m a b n eg em ea eb en = let e = length_text text words places in cc
 
--- one name more
-pub length_names_step : (text : List ℕ) (places : List Place) (i : ℕ) (d : Place) → i < length places
-    → length (names_text text (take (i + 1) places)) ≡ length (names_text text (take i places)) + (length (part_at text (get_or places i d)) + 1)
-length_names_step text places i d lt =
-    ap length (joined_step (λ p. line (part_at text p)) places i d lt)
-    ∙ length-append (names_text text (take i places)) _
-    ∙ ap (λ n. length (names_text text (take i places)) + n) (length-append (part_at text (get_or places i d)) (10 ∷ []))
+-- the bytes at the places, and a line feed for each, are the lines of the names; they are few
+pub record NamesCounted (text : List ℕ) (places : List Place) : Type 0 where
+  pub whole : sum_by (λ p. p.length) places + length places ≡ length (names_text text places)
+  pub few : sum_by (λ p. p.length) places ≤ 40 * length places
+
+pub names_counted : (text : List ℕ) (places : List Place) → list_all (holds_name_at text) places ≡ true → NamesCounted text places
+names_counted text [] e = record { whole = omega arith; few = omega arith }
+names_counted text (p ∷ ps) e =
+    let h = and_parts (holds_name_at text p) (list_all (holds_name_at text) ps) e in
+    let more = names_counted text ps h.1 in
+    let inside = place_inside text p h.0 in
+    let part : length (part_at text p) ≡ p.length = simp (length-take, length-drop) (omega arith) in
+    let short : length (part_at text p) ≤ 40 = name_short (part_at text p) (place_named text p h.0) in
+    let sum : sum_by (λ q. q.length) (p ∷ ps) ≡ p.length + sum_by (λ q. q.length) ps = sum_by-cons (λ q. q.length) p ps in
+    record {
+      whole = omega (arith, sum, part, more.whole, length-append (line (part_at text p)) (names_text text ps), length-append (part_at text p) (10 ∷ []));
+      few = omega (arith, sum, part, short, more.few);
+    }
 
 pub fit_short : (text words : List ℕ) (places : List Place) (i : ℕ) (d : Place) → fit text words places ≡ true → i < length places → length (part_at text (get_or places i d)) ≤ 40
 fit_short text words places i d e lt = name_short _ (place_named text (get_or places i d) (every_at (holds_name_at text) places i d (fit_parts text words places e).names lt))
-
--- the rows have few bytes
-pub rows_small : (g m : ℕ) → g ≤ 512 → m ≤ 60 → g * (m + 1) ≤ 512 * 61
-rows_small g m few narrow = let h : m + 1 ≤ 61 = omega arith in mul-le-mul few h

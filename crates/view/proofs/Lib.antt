@@ -1,8 +1,8 @@
 pub mod Cells
-pub mod Everies
 pub mod Heads
 pub mod Laws
 pub mod Lengths
+pub mod LinesPut
 pub mod Narrow
 pub mod OwnText
 pub mod Wholes

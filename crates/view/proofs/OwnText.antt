@@ -1,6 +1,6 @@
 -- A text that was read shows its table, whose text is the text's own bytes.
 use Rattle.std.proofs.Common.{◌≡◌, ℕ, ◌+◌, true, leb, List, [], ◌∷◌, map, length, take, drop, Ok, sym, refl, ap, ◌∙◌, subst}
-use Rattle.std.specs.List.{AllByRecursion}
+use Rattle.std.specs.List.{AllByRecursion, list_all}
 use Rattle.std.proofs.lemmas.List.{take_at, drop_at, take-map, drop-map}
 use Rattle.std.proofs.lemmas.Bool.{le-leb, and_from}
 use Rattle.table.specs.declared.place.Place.{Place}
@@ -11,7 +11,7 @@ use Rattle.table.specs.Tables.{Table, Lawful, text_of}
 use Rattle.table.proofs.Agreement.{sound, places_long}
 use Rattle.table.proofs.NameLines.{Placed}
 use Rattle.view.specs.Texts.{shown_text}
-use Rattle.view.specs.Views.{every, fit, table_of}
+use Rattle.view.specs.Views.{fit, table_of}
 use Rattle.view.proofs.Laws.{lawful_fit}
 
 -- the table shown of what was read is the table that the text begins with
@@ -26,7 +26,7 @@ own_table text c t lawful read =
     ∙ ap (λ ns. record { words = t.words; row_names = ns; signal_names = map (part_at text) (drop (length c.words) c.places) }) rows
     ∙ ap (λ ns. record { words = t.words; row_names = t.row_names; signal_names = ns }) signals
 
-all_inside : (text : List ℕ) (ps : List Place) → AllByRecursion (Placed text) ps → every (λ p. leb (p.start + p.length) (length text)) ps ≡ true
+all_inside : (text : List ℕ) (ps : List Place) → AllByRecursion (Placed text) ps → list_all (λ p. leb (p.start + p.length) (length text)) ps ≡ true
 all_inside text [] all = refl
 all_inside text (p ∷ ps) (here, more) = and_from _ _ (le-leb (p.start + p.length) (length text) here.0) (all_inside text ps more)
 

@@ -1,71 +1,57 @@
--- The head, the names and the rows, written one behind another, are the text.
-use Rattle.std.proofs.Common.{◌≡◌, ℕ, ◌+◌, ◌-◌, ◌≤◌, List, ◌++◌, length, Ok, Result, sym, refl, ap, ◌∙◌, subst, append_assoc, zero-add, arith}
+-- The head, the names and the rows, put one behind another, are the text.
+use Rattle.std.proofs.Common.{◌≡◌, ℕ, ◌+◌, ◌-◌, ◌≤◌, List, ◌++◌, length, Err, Result, arith, sym, ap₂, ◌∙◌, subst, append_assoc}
 use Rattle.output.specs.declared.faults.OutputFault.{OutputFault}
-use Rattle.output.specs.Puts.{put_at, put_answer_of, after_put}
-use Rattle.output.proofs.Puts.{answer_fits, output_fits}
-use Rattle.output.proofs.Writing.{Wrote, wrote_more, wrote_room, front_room}
-use Rattle.table.specs.declared.place.Place.{Place}
-use Rattle.view.specs.Texts.{shown_text, head_text, names_text, rows_text}
+use Rattle.output.specs.declared.output.Output.{Output}
+use Rattle.output.specs.Outputs.{Grows, Puts}
+use Rattle.output.proofs.Growing.{grows_last, grows_put, grows_refused, grows_room, puts_fits}
+use Rattle.output.proofs.Writing.{front_room}
+use Rattle.view.specs.declared.table_view.TableView.{TableView}
+use Rattle.view.specs.Shown.{name_lines, row_lines, signal_count, table_text}
+use Rattle.view.specs.Texts.{head_text}
 use Rattle.view.proofs.Lengths.{text_parts}
 
-module _ (text words : List ℕ) (places : List Place) (before : List ℕ) (fits : length (shown_text text words places) ≤ length before) where
-  abbrev m : ℕ
-  m = length places - length words
+-- the first five lines, and they and the lines of the names
+abbrev pub head_lines : TableView → List ℕ
+head_lines view = head_text (length view.words.now) (signal_count view)
 
-  abbrev pub head : List ℕ
-  head = head_text (length words) m
+abbrev pub front_lines : TableView → List ℕ
+front_lines view = head_lines view ++ name_lines view
 
-  abbrev pub headed : List ℕ
-  headed = head ++ names_text text places
+-- there is room for a text that is no longer than the room
+pub text_fits : (view : TableView) (a : Output) (size room : ℕ) → size ≡ length (table_text view) → room ≡ length a.bytes.now - a.at → size ≤ room → a.at + length (table_text view) ≤ length a.bytes.now
+text_fits view a size room es er le = let some : 1 ≤ length (table_text view) = omega arith in omega arith
 
-  text_is : shown_text text words places ≡ headed ++ rows_text m words
-  text_is = text_parts text words places ∙ sym (append_assoc head (names_text text places) (rows_text m words))
+module _ (view : TableView) (before : Output) (fits : before.at + length (table_text view) ≤ length before.bytes.now) where
+  text_is : table_text view ≡ front_lines view ++ row_lines view
+  text_is = text_parts view.text.now view.words.now view.places.now ∙ sym (append_assoc (head_lines view) (name_lines view) (row_lines view))
 
-  room : 0 + length (headed ++ rows_text m words) ≤ length before
-  room = subst (λ xs. 0 + length xs ≤ length before) text_is (omega arith)
+  room : before.at + length (front_lines view ++ row_lines view) ≤ length before.bytes.now
+  room = subst (λ xs. before.at + length xs ≤ length before.bytes.now) text_is fits
 
-  room_names : 0 + length headed ≤ length before
-  room_names = front_room 0 (length before) headed (rows_text m words) room
+  room_names : before.at + length (front_lines view) ≤ length before.bytes.now
+  room_names = front_room before.at (length before.bytes.now) (front_lines view) (row_lines view) room
 
-  room_head : 0 + length head ≤ length before
-  room_head = front_room 0 (length before) head (names_text text places) room_names
+  -- g and n are what the code has for the numbers of rows and signals
+  module _ (g n : ℕ) (eg : g ≡ length view.words.now) (en : n ≡ signal_count view) where
+    pub head_room : before.at + length (head_text g n) ≤ length before.bytes.now
+    head_room = subst (λ xs. before.at + length xs ≤ length before.bytes.now) (sym (ap₂ head_text eg en)) (front_room before.at (length before.bytes.now) (head_lines view) (name_lines view) room_names)
 
-  -- g, n and ws are what the code has for the numbers of rows and signals and for the words
-  pub head_room : (g n : ℕ) → g ≡ length words → n ≡ m → length (head_text g n) ≤ length before
-  head_room g n eg en = let same : head_text g n ≡ head = cc in subst (λ xs. length xs ≤ length before) (sym same) (omega (arith, room_head))
+    pub head_grows : (after : Output) (r : Result Unit OutputFault) → Puts (head_text g n) before r after → Grows (head_lines view) before after
+    head_grows after r p = subst (λ xs. Grows xs before after) (ap₂ head_text eg en) (puts_fits (head_text g n) before after r head_room p).1
 
-  pub head_wrote : (g n : ℕ) (after : List ℕ) (end : ℕ) → g ≡ length words → n ≡ m → ◌≡◌ {A = Result ℕ OutputFault} (Ok end) (Ok (length (head_text g n))) → after ≡ put_at 0 (head_text g n) before
-      → Wrote 0 head before after end
-  head_wrote g n after end eg en e put =
-      let same : head_text g n ≡ head = cc in
-      let long : end ≡ length (head_text g n) = cc in
-      record { whole = put ∙ ap (λ xs. put_at 0 xs before) same; behind = long ∙ ap length same ∙ sym (zero-add (length head)); room = room_head }
+  pub names_room : (after : Output) → Grows (head_lines view) before after → after.at + length (name_lines view) ≤ length after.bytes.now
+  names_room after w = grows_room (head_lines view) (name_lines view) before after room_names w
 
-  pub names_room : (after : List ℕ) (end : ℕ) → Wrote 0 head before after end → end + length (names_text text places) ≤ length after
-  names_room after end w = wrote_room 0 head (names_text text places) before after end w room_names
+  pub names_grow : (after later : Output) (r : Result Unit OutputFault) → Grows (head_lines view) before after → Puts (name_lines view) after r later → Grows (front_lines view) before later
+  names_grow after later r w p = (grows_put (head_lines view) (name_lines view) before after later r room_names w p).1
 
-  pub names_wrote : (after later : List ℕ) (end next : ℕ) → Wrote 0 head before after end → ◌≡◌ {A = Result ℕ OutputFault} (Ok next) (Ok (end + length (names_text text places)))
-      → later ≡ put_at end (names_text text places) after → Wrote 0 headed before later next
-  names_wrote after later end next w e put = let behind : next ≡ end + length (names_text text places) = cc in wrote_more 0 head (names_text text places) before after later end next w room_names behind put
+  pub rows_room : (after : Output) → Grows (front_lines view) before after → after.at + length (row_lines view) ≤ length after.bytes.now
+  rows_room after w = grows_room (front_lines view) (row_lines view) before after room w
 
-  pub rows_room : (n : ℕ) (ws after : List ℕ) (end : ℕ) → n ≡ m → ws ≡ words → Wrote 0 headed before after end → end + length (rows_text n ws) ≤ length after
-  rows_room n ws after end en ew w =
-      let same : rows_text n ws ≡ rows_text m words = ap (λ k. rows_text k ws) en ∙ ap (rows_text m) ew in
-      subst (λ xs. end + length xs ≤ length after) (sym same) (wrote_room 0 headed (rows_text m words) before after end w room)
+  -- all is put
+  pub text_puts : (after later : Output) (r : Result Unit OutputFault) → Grows (front_lines view) before after → Puts (row_lines view) after r later → Puts (table_text view) before r later
+  text_puts after later r w p = subst (λ xs. Puts xs before r later) (sym text_is) (grows_last (front_lines view) (row_lines view) before after later r room w p)
 
-  -- all is written
-  pub text_answer : (n : ℕ) (ws after : List ℕ) (end : ℕ) (r : Result ℕ OutputFault) → n ≡ m → ws ≡ words → Wrote 0 headed before after end → r ≡ Ok (end + length (rows_text n ws))
-      → r ≡ put_answer_of 0 (shown_text text words places) before
-  text_answer n ws after end r en ew w e =
-      let same : rows_text n ws ≡ rows_text m words = ap (λ k. rows_text k ws) en ∙ ap (rows_text m) ew in
-      let put = wrote_more 0 headed (rows_text m words) before after _ end (end + length (rows_text m words)) w room refl refl in
-      e ∙ ap (λ xs. Ok (end + length xs)) same ∙ ap Ok (put.behind ∙ ap (λ xs. 0 + length xs) (sym text_is))
-      ∙ sym (answer_fits 0 (shown_text text words places) before (omega arith))
-
-  pub text_output : (n : ℕ) (ws after later : List ℕ) (end : ℕ) → n ≡ m → ws ≡ words → Wrote 0 headed before after end → later ≡ put_at end (rows_text n ws) after
-      → later ≡ after_put 0 (shown_text text words places) before
-  text_output n ws after later end en ew w put =
-      let same : rows_text n ws ≡ rows_text m words = ap (λ k. rows_text k ws) en ∙ ap (rows_text m) ew in
-      (wrote_more 0 headed (rows_text m words) before after later end (end + length (rows_text m words)) w room refl (put ∙ ap (λ xs. put_at end xs after) same)).whole
-      ∙ ap (λ xs. put_at 0 xs before) (sym text_is)
-      ∙ sym (output_fits 0 (shown_text text words places) before (omega arith))
+  -- nothing is refused
+  pub names_unrefused : {X : Type 0} (after later : Output) (e : OutputFault) → Grows (head_lines view) before after → Puts (name_lines view) after (Err e) later → X
+  names_unrefused after later e w p = grows_refused (head_lines view) (name_lines view) before after later e room_names w p

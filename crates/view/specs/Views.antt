@@ -1,13 +1,9 @@
 -- What a view of a table is made of, and the table that it shows.
-use Rattle.std.specs.Prelude.{ℕ, ◌+◌, ◌-◌, ◌^◌, Bool, true, not, ◌&&◌, List, [], ◌∷◌, map, length, take, drop, is_some, nat_le, nat_lt, slice_index_or}
+use Rattle.std.specs.Prelude.{ℕ, ◌+◌, ◌-◌, ◌^◌, Bool, not, ◌&&◌, List, map, length, take, drop, is_some, nat_le, nat_lt, slice_index_or}
+use Rattle.std.specs.List.{list_all}
 use Rattle.table.specs.declared.place.Place.{Place}
 use Rattle.table.specs.Names.{wrong_byte_of, part_at}
 use Rattle.table.specs.Tables.{Table}
-
--- the test holds of each
-abbrev pub every : {X : Type 0} → (X → Bool) → List X → Bool
-every test [] = true
-every test (x ∷ xs) = test x && every test xs
 
 -- the place lies inside the text, and its bytes are a name
 abbrev pub holds_name_at : List ℕ → Place → Bool
@@ -17,7 +13,7 @@ holds_name_at text p = nat_le (p.start + p.length) (length text) && not (is_some
 abbrev pub fit : (text words : List ℕ) → List Place → Bool
 fit text words places =
     nat_le (length words) 512 && (nat_le (length words) (length places) && (nat_le (length places - length words) 60
-    && (every (λ w. nat_lt w (2 ^ (length places - length words))) words && every (holds_name_at text) places)))
+    && (list_all (λ w. nat_lt w (2 ^ (length places - length words))) words && list_all (holds_name_at text) places)))
 
 -- no name: the empty part at 0
 abbrev pub absent : Place

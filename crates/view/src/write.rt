@@ -1,37 +1,40 @@
-ghost use Rattle.std.specs.Prelude.{◌≡◌, ◌+◌, ◌*◌, ◌<◌, ◌≤◌, length, take, Ok};
-ghost use Rattle.output.specs.Puts.{after_put, put_answer_of, put_at};
+ghost use Rattle.std.specs.Prelude.{◌≡◌, ◌+◌, ◌*◌, ◌^◌, ◌<◌, ◌≤◌, length, sum_by, take};
+ghost use Rattle.output.specs.Outputs.{Puts};
 ghost use Rattle.table.specs.Grammar.{ReadAgain};
 ghost use Rattle.table.specs.Tables.{cells, line};
-ghost use Rattle.view.specs.Texts.{cell_of, head_text, names_text, rows_text, shown_text};
-ghost use Rattle.view.specs.Views.{table_of};
+ghost use Rattle.table.specs.declared.name.TheConstants.{MAX_NAME};
+ghost use Rattle.table.specs.declared.place.Place.{Place};
+ghost use Rattle.theory.specs.declared.TheConstants.{MAX_SIGNALS};
+ghost use Rattle.view.specs.Shown.{name_lines, row_lines, shown, table_text};
+ghost use Rattle.view.specs.Texts.{cell_of, head_text};
 
+use crate::name::Name;
 use crate::table_view::TableView;
 use output::faults::OutputFault;
-use output::number::{digits, put_number};
-use output::put::put;
+use output::number::digits;
+use output::output::Output;
+use table::place::Place;
 use theory::MAX_SIGNALS;
 
 // The bytes of the first five lines besides the two numbers.
 const HEAD_BYTES: usize = 6;
 
-// Writes the text of the table at the front of the output, and answers its length; where it does not fit, the output stays as before.
-pub fn write_table(view: &TableView, out: &mut [u8]) -> Result<usize, OutputFault>
-    ensures answer { result ≡ put_answer_of 0 (shown_text view.now.text.now view.now.words.now view.now.places.now) out.old }
-    ensures output { out.new ≡ after_put 0 (shown_text view.now.text.now view.now.words.now view.now.places.now) out.old }
-    ensures again { ReadAgain (table_of view.now.text.now view.now.words.now view.now.places.now) }
+// Writes the text of the table behind what was put; where it does not fit, all stays as before.
+pub fn write_table(view: &TableView, out: &mut Output) -> Result<(), OutputFault>
+    ensures puts { Puts (table_text view.now) out.old result out.new }
+    ensures again { ReadAgain (shown view.now) }
 {
-    if text_length(view) > out.len() {
+    if text_length(view) > out.room() {
         return Err(OutputFault::Full);
     }
-    let signals = view.signals();
-    let at = put_head(out, view.rows(), signals)?;
-    let at = put_names(out, at, view)?;
-    put_rows(out, at, view.words(), signals)
+    put_head(out, view.rows(), view.signals())?;
+    put_names(out, view)?;
+    put_rows(out, view)
 }
 
 // Counts the bytes of the table's text.
 fn text_length(view: &TableView) -> usize
-    ensures count { result ≡ length (shown_text view.now.text.now view.now.words.now view.now.places.now) }
+    ensures count { result ≡ length (table_text view.now) }
 {
     let rows = view.rows();
     let signals = view.signals();
@@ -40,77 +43,72 @@ fn text_length(view: &TableView) -> usize
 
 // Counts the bytes of the lines of the names.
 fn names_length(view: &TableView) -> usize
-    ensures count { result ≡ length (names_text view.now.text.now view.now.places.now) }
-    ensures small { result ≤ 41 * length view.now.places.now }
+    ensures count { result ≡ length (name_lines view.now) }
+    ensures few { result ≤ (MAX_NAME + 1) * length view.now.places.now }
 {
-    let mut sum = 0;
-    for index in 0..view.rows() + view.signals() {
-        sum += view.name_at(index).bytes.len() + 1;
-    }
-    sum
+    let places = view.places();
+    bytes_at(places) + places.len()
 }
 
-// Puts the first five lines at the front.
-fn put_head(out: &mut [u8], rows: usize, signals: usize) -> Result<usize, OutputFault>
-    requires { length (head_text rows signals) ≤ length out.old }
-    ensures answer { result ≡ Ok (length (head_text rows signals)) }
-    ensures output { out.new ≡ put_at 0 (head_text rows signals) out.old }
+// Counts the bytes at these places.
+fn bytes_at(places: &[Place]) -> usize
+    requires { sum_by (λ (place : Place). place.length) places.now < 2 ^ 64 }
+    ensures { result ≡ sum_by (λ (place : Place). place.length) places.now }
 {
-    let at = put(out, 0, b"B\n\n")?;
-    let at = put_number(out, at, rows)?;
-    let at = put(out, at, b"\n")?;
-    let at = put_number(out, at, signals)?;
-    put(out, at, b"\n\n")
+    places.iter().map(|place| place.length).sum()
+}
+
+// Puts the first five lines.
+fn put_head(out: &mut Output, rows: usize, signals: usize) -> Result<(), OutputFault>
+    requires room { out.old.at + length (head_text rows signals) ≤ length out.old.bytes.now }
+    ensures puts { Puts (head_text rows signals) out.old result out.new }
+{
+    out.put(b"B\n\n")?;
+    out.put_number(rows)?;
+    out.put(b"\n")?;
+    out.put_number(signals)?;
+    out.put(b"\n\n")
 }
 
 // Puts the lines of the row names and then of the signal names.
-fn put_names(out: &mut [u8], start: usize, view: &TableView) -> Result<usize, OutputFault>
-    requires { start + length (names_text view.now.text.now view.now.places.now) ≤ length out.old }
-    ensures answer { result ≡ Ok (start + length (names_text view.now.text.now view.now.places.now)) }
-    ensures output { out.new ≡ put_at start (names_text view.now.text.now view.now.places.now) out.old }
+fn put_names(out: &mut Output, view: &TableView) -> Result<(), OutputFault>
+    requires room { out.old.at + length (name_lines view.now) ≤ length out.old.bytes.now }
+    ensures puts { Puts (name_lines view.now) out.old result out.new }
 {
-    let mut at = start;
-    for index in 0..view.rows() + view.signals() {
-        at = put_line(out, at, view.name_at(index).bytes)?;
+    for place in view.places() {
+        put_line(out, Name::new(view.text(), *place).bytes)?;
     }
-    Ok(at)
+    Ok(())
 }
 
 // Puts the lines of the rows.
-fn put_rows(
-    out: &mut [u8],
-    start: usize,
-    words: &[u64],
-    signals: usize,
-) -> Result<usize, OutputFault>
-    requires narrow { signals ≤ 60 }
-    requires room { start + length (rows_text signals words.now) ≤ length out.old }
-    ensures answer { result ≡ Ok (start + length (rows_text signals words.now)) }
-    ensures output { out.new ≡ put_at start (rows_text signals words.now) out.old }
+fn put_rows(out: &mut Output, view: &TableView) -> Result<(), OutputFault>
+    requires room { out.old.at + length (row_lines view.now) ≤ length out.old.bytes.now }
+    ensures puts { Puts (row_lines view.now) out.old result out.new }
 {
-    let mut at = start;
-    for word in words {
+    let signals = view.signals();
+    for word in view.words() {
         let row = row_cells(*word, signals);
-        at = put_line(out, at, &row[0..signals])?;
+        put_line(out, &row[..signals])?;
     }
-    Ok(at)
+    Ok(())
 }
 
 // The cells of a row, one for each signal from the first on.
 fn row_cells(word: u64, signals: usize) -> [u8; MAX_SIGNALS]
-    requires { signals ≤ 60 }
+    requires { signals ≤ MAX_SIGNALS }
     ensures row { take signals result ≡ cells signals word }
 {
     let mut row = [b'.'; MAX_SIGNALS];
-    for signal in 0..signals {
-        row[signal] = cell(word, signals, signal);
+    for (signal, byte) in row[..signals].iter_mut().enumerate() {
+        *byte = cell(word, signals, signal);
     }
     row
 }
 
 // The cell of a signal in a row: X where the row contains the signal, else a full stop.
 fn cell(word: u64, signals: usize, signal: usize) -> u8
-    requires narrow { signals ≤ 60 }
+    requires narrow { signals ≤ MAX_SIGNALS }
     requires within { signal < signals }
     ensures mark { result ≡ cell_of signals word signal }
 {
@@ -122,11 +120,10 @@ fn cell(word: u64, signals: usize, signal: usize) -> u8
 }
 
 // Puts a line and its line feed.
-fn put_line(out: &mut [u8], at: usize, bytes: &[u8]) -> Result<usize, OutputFault>
-    requires { at + length (line bytes.now) ≤ length out.old }
-    ensures answer { result ≡ Ok (at + length (line bytes.now)) }
-    ensures output { out.new ≡ put_at at (line bytes.now) out.old }
+fn put_line(out: &mut Output, bytes: &[u8]) -> Result<(), OutputFault>
+    requires room { out.old.at + length (line bytes.now) ≤ length out.old.bytes.now }
+    ensures puts { Puts (line bytes.now) out.old result out.new }
 {
-    let end = put(out, at, bytes)?;
-    put(out, end, b"\n")
+    out.put(bytes)?;
+    out.put(b"\n")
 }

@@ -1,10 +1,14 @@
-ghost use Rattle.std.specs.Prelude.{◌≡◌, ◌+◌, ◌≤◌, ◌&&◌, length, Ok, nat_le, nat_lt};
+ghost use Rattle.std.specs.Prelude.{◌≡◌, ◌+◌, ◌-◌, ◌^◌, ◌≤◌, length, Ok, if◌then◌else◌, nat_lt};
 ghost use Rattle.output.specs.Puts.{after_put, put_answer_of};
-ghost use Rattle.page.specs.Pages.{foot, max_lines, reserve};
+ghost use Rattle.page.specs.Pages.{at_with, foot, line_answer, lines_with, max_lines, output_with, reserve};
+ghost use Rattle.view.specs.Shown.{signal_names};
 
 use super::{FOOT_BYTES, MAX_LINES, Page};
+use crate::entry::Entry;
+use crate::faults::PageFault;
 use output::faults::OutputFault;
-use output::record::put_record;
+use output::output::Output;
+use view::table_view::TableView;
 
 impl Page {
     // The position in the output behind the last line.
@@ -21,14 +25,36 @@ impl Page {
         self.lines
     }
 
-    // Tells whether the page takes a line of so many bytes, which leaves the bytes of the foot in an output of `room` bytes.
-    pub(super) fn takes(&self, bytes: usize, room: usize) -> bool
-        ensures answer { result ≡ (nat_lt self.now.lines max_lines && nat_le (self.now.at + bytes + reserve) room) }
+    // Adds the line of an entry at a place of its list; an entry of another width than the view's, and a line that does not fit, leave page and output as before.
+    pub fn line<E: Entry>(
+        &mut self,
+        out: &mut [u8],
+        view: &TableView,
+        place: usize,
+        entry: &E,
+    ) -> Result<(), PageFault>
+        ensures answer { result ≡ line_answer self.old (E.Entry.shown entry.now (signal_names view.now) place) out.old }
+        ensures output { out.new ≡ output_with self.old (E.Entry.shown entry.now (signal_names view.now) place) out.old }
+        ensures at { self.new.at ≡ at_with self.old (E.Entry.shown entry.now (signal_names view.now) place) out.old }
+        ensures lines { self.new.lines ≡ lines_with self.old (E.Entry.shown entry.now (signal_names view.now) place) out.old }
+        ensures reserved { self.old.at + reserve ≤ length out.old → self.new.at + reserve ≤ length out.new }
     {
-        let Some(left) = room.checked_sub(self.at) else {
-            return false;
-        };
-        self.lines < MAX_LINES && left >= FOOT_BYTES && left - FOOT_BYTES >= bytes
+        let mut output = Output::new(out, self.at);
+        entry.put_line(&mut output, self.kept(), view, place)?;
+        self.at = output.at();
+        self.lines += 1;
+        Ok(())
+    }
+
+    // How many bytes stay free behind a line: those of the foot, and all where the page takes no more lines.
+    fn kept(&self) -> usize
+        ensures value { result ≡ (if nat_lt self.now.lines max_lines then reserve else 2 ^ 64 - 1) }
+    {
+        if self.lines < MAX_LINES {
+            FOOT_BYTES
+        } else {
+            usize::MAX
+        }
     }
 
     // Ends the page with its foot, and answers the position behind it; an output without room for it, which is never one that the page was begun on, stays as before.
@@ -38,6 +64,8 @@ impl Page {
         ensures granted { self.at + reserve ≤ length out.old → result ≡ Ok (self.at + length (foot self.lines)) }
     {
         let Page { at, lines } = self;
-        put_record(out, at, b"end", &[lines])
+        let mut output = Output::new(out, at);
+        output.put_record(b"end", &[lines])?;
+        Ok(output.at())
     }
 }

@@ -29,6 +29,7 @@ impl Set {
     }
 
     // Whether the set comes before the other in the lectic order.
+    // No `PartialOrd`: a derived one would order sets of different widths, of which neither precedes.
     pub fn precedes(&self, other: &Set) -> bool
         ensures told { Decides result (Precedes self.now other.now) }
     {

@@ -17,3 +17,12 @@ impl Set {
         self.word
     }
 }
+
+// The empty set of no signals.
+impl Default for Set {
+    ghost is_default = { λ set. (set.width ≡ 0) × (set.word ≡ 0) };
+
+    fn default() -> Set {
+        Set { width: 0, word: 0 }
+    }
+}

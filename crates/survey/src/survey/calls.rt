@@ -1,12 +1,13 @@
-ghost use Rattle.std.specs.Prelude.{◌≡◌, suc, ◌≤◌, IfSome, MatchOption};
+ghost use Rattle.std.specs.Prelude.{◌≡◌, suc, ◌≤◌, Ok, Err, IfSome, MatchOption};
 ghost use Rattle.sets.specs.declared.faults.SetFault.TheVariants.{Ended as AtEnd};
 ghost use Rattle.survey.specs.Calls.{Takes, of_seek, of_step, state_after};
-ghost use Rattle.survey.specs.declared.call.Answer.TheVariants.{Listed, Moved, Refused};
+ghost use Rattle.survey.specs.declared.call.Granted.TheVariants.{Listed, Moved};
 ghost use Rattle.survey.specs.declared.call.Call.TheVariants.{Step, Seek, Rewind};
-ghost use Rattle.survey.specs.declared.state.State.TheVariants.{Fresh};
+ghost use Rattle.survey.specs.States.{FreshAt};
+ghost use Rattle.theory.specs.Words.{max_signals};
 
 use super::Survey;
-use crate::call::{Answer, Call};
+use crate::call::{Answer, Call, Granted};
 use crate::next::{first_from, next_after};
 use crate::state::State;
 use operators::operator::Operator;
@@ -18,13 +19,14 @@ impl<O: Operator> Survey<O> {
     pub fn open(operator: O) -> Survey<O>
         ensures operator { result.operator ≡ operator }
         ensures width { result.width ≡ O.Operator.span operator }
-        ensures start { result.state ≡ Fresh 0 }
+        ensures start { FreshAt 0 result.state }
     {
         let width = operator.width();
+        let start = empty(width);
         Survey {
             operator,
             width,
-            state: State::Fresh { start: 0 },
+            state: State::Fresh { start },
         }
     }
 
@@ -32,27 +34,23 @@ impl<O: Operator> Survey<O> {
     fn list(&mut self, found: Option<(Set, usize)>, serial: u64) -> Answer
         requires fit { IfSome found (λ f. (f.0.width ≡ self.old.width) × (serial ≤ suc f.0.word)) }
         ensures answer { MatchOption found
-            ((result ≡ Refused AtEnd) × (self.new.state ≡ self.old.state))
-            (λ f. (result ≡ Listed f.0 serial f.1)
-            × (self.new.state ≡ state_after self.old.width f.0.word serial)) }
+            ((result ≡ Err AtEnd) × (self.new.state ≡ self.old.state))
+            (λ f. (result ≡ Ok (Listed f.0 serial f.1))
+            × (self.new.state ≡ state_after self.old.width f.0 serial)) }
         ensures operator { self.new.operator ≡ self.old.operator }
         ensures width { self.new.width ≡ self.old.width }
     {
-        let Some(listed) = found else {
-            return Answer::Refused(SetFault::Ended);
-        };
-        let (set, trials) = listed;
-        let last = set.word();
-        self.state = if last + 1 == 1 << self.width {
+        let (set, trials) = found.ok_or(SetFault::Ended)?;
+        self.state = if set.word() + 1 == 1 << self.width {
             State::Ended
         } else {
-            State::Running { last, serial }
+            State::Running { last: set, serial }
         };
-        Answer::Listed {
+        Ok(Granted::Listed {
             set,
             serial,
             trials,
-        }
+        })
     }
 
     // Makes one call: lists the next closed set, or begins anew.
@@ -61,25 +59,26 @@ impl<O: Operator> Survey<O> {
     {
         match (call, &mut self.state) {
             (Call::Step, State::Fresh { start }) => {
-                let found = first_from(&self.operator, self.width, *start);
+                let found = first_from(&self.operator, *start);
                 self.list(found, 1)
             }
             (Call::Step, State::Running { last, serial }) => {
-                let found = next_after(&self.operator, self.width, *last);
+                let found = next_after(&self.operator, *last);
                 let next = *serial + 1;
                 self.list(found, next)
             }
-            (Call::Step, State::Ended) => Answer::Refused(SetFault::Ended),
+            (Call::Step, State::Ended) => Err(SetFault::Ended),
             (Call::Seek(set), state) => {
                 if set.width() != self.width {
-                    return Answer::Refused(SetFault::OtherWidth);
+                    return Err(SetFault::OtherWidth);
                 }
-                *state = State::Fresh { start: set.word() };
-                Answer::Moved
+                *state = State::Fresh { start: set };
+                Ok(Granted::Moved)
             }
             (Call::Rewind, state) => {
-                *state = State::Fresh { start: 0 };
-                Answer::Moved
+                let start = empty(self.width);
+                *state = State::Fresh { start };
+                Ok(Granted::Moved)
             }
         }
     }
@@ -88,30 +87,38 @@ impl<O: Operator> Survey<O> {
     pub fn step(&mut self) -> Result<(Set, u64, usize), SetFault>
         ensures takes { Takes O.Operator.span O.Operator.means Step self.old (of_step result) self.new }
     {
-        match self.answer(Call::Step) {
-            Answer::Listed {
-                set,
-                serial,
-                trials,
-            } => Ok((set, serial, trials)),
-            _ => Err(SetFault::Ended),
-        }
+        let Granted::Listed {
+            set,
+            serial,
+            trials,
+        } = self.answer(Call::Step)?
+        else {
+            return Err(SetFault::Ended);
+        };
+        Ok((set, serial, trials))
     }
 
     // Begins anew from a set; refused for a set of another width.
     pub fn seek(&mut self, set: Set) -> Result<(), SetFault>
         ensures takes { Takes O.Operator.span O.Operator.means (Seek set) self.old (of_seek result) self.new }
     {
-        match self.answer(Call::Seek(set)) {
-            Answer::Refused(fault) => Err(fault),
-            _ => Ok(()),
-        }
+        self.answer(Call::Seek(set))?;
+        Ok(())
     }
 
     // Begins anew from the empty set.
     pub fn rewind(&mut self)
-        ensures takes { Takes O.Operator.span O.Operator.means Rewind self.old Moved self.new }
+        ensures takes { Takes O.Operator.span O.Operator.means Rewind self.old (Ok Moved) self.new }
     {
         let _ = self.answer(Call::Rewind);
     }
+}
+
+// The empty set of a width.
+fn empty(width: usize) -> Set
+    requires { width ≤ max_signals }
+    ensures width { result.width ≡ width }
+    ensures word { result.word ≡ 0 }
+{
+    Set::new(width, 0).unwrap()
 }

@@ -16,13 +16,11 @@ returns-in_err-put g c =
     let same : c.from_residual-in_err-put.result ≡ Err (refusal.Tray c.in_err-put.field-0.0) = p.1 ∙ ap Err p.2 in
     let full = crowded m (g.O.Operator.means c.args.operator.now) (capacity c.args.rules.now) (entries c.args.rules.now) c.args.mark.now
     c.in_ok-set.set c.closure-closed.result c.rule_between.result c.word.result c.word-2.result taken
-    c.closure-closed.ensures.closed c.word.ensures.value c.word-2.ensures.value c.if-word.true put.0 in
+    c.closure-closed.ensures.closed c.word.ensures.value c.word-2.ensures.value c.if-word.false put.0 in
     record {
       advances = subst (λ r. Advances m (g.O.Operator.means c.args.operator.now) (capacity c.args.rules.now) (entries c.args.rules.now) c.args.mark.now r
           (entries c.put.new.self) c.args.mark.now) (sym same) ((put.2, full), ap entries put.1, refl);
-      size = c.put.ensures.size;
-      past = c.put.ensures.past;
-      link = c.put.ensures.link;
+      kept = c.put.ensures.kept;
     }
 
 pub returns-in_ok-put : goal.returns-in_ok-put
@@ -34,11 +32,9 @@ returns-in_ok-put g c =
     record {
       advances = adds m (g.O.Operator.means c.args.operator.now) (capacity c.args.rules.now) (entries c.args.rules.now) c.args.mark.now
           c.in_ok-set.set c.closure-closed.result c.rule_between.result c.word.result c.word-2.result taken
-          c.closure-closed.ensures.closed c.word.ensures.value c.word-2.ensures.value c.if-word.true
+          c.closure-closed.ensures.closed c.word.ensures.value c.word-2.ensures.value c.if-word.false
           (entries c.put.new.self) put.0 put.1 c.rule_between.ensures.premise c.rule_between.ensures.conclusion;
-      size = c.put.ensures.size;
-      past = c.put.ensures.past;
-      link = c.put.ensures.link;
+      kept = c.put.ensures.kept;
     }
 
 pub rule_between-requires : goal.rule_between-requires
@@ -49,16 +45,14 @@ rule_between-requires g c =
     inside_closure m (g.O.Operator.means c.args.operator.now) (g.O.Operator.closes c.args.operator.now) c.in_ok-set.set c.closure-closed.result
     taken.width c.closure-closed.ensures.width c.closure-closed.ensures.closed
 
-pub returns-else-word : goal.returns-else-word
-returns-else-word g c =
+pub returns-then-word : goal.returns-then-word
+returns-then-word g c =
     let m = g.O.Operator.span c.args.operator.now in
     let taken = taken_read c.width.result m c.entries.result.now (entries c.args.rules.now) c.args.mark.now c.in_ok-set.set
     c.width.ensures c.entries.ensures.value c.in_ok-set.ensures.next in
     record {
       advances = passes m (g.O.Operator.means c.args.operator.now) (entries c.args.rules.now) c.args.mark.now c.in_ok-set.set
           c.closure-closed.result c.word.result c.word-2.result taken c.closure-closed.ensures.closed c.word.ensures.value
-          c.word-2.ensures.value c.if-word.false;
-      size = refl;
-      past = refl;
-      link = refl;
+          c.word-2.ensures.value c.if-word.true;
+      kept = record { size = refl; past = refl; link = refl };
     }

@@ -1,4 +1,4 @@
-use Rattle.std.proofs.Common.{◌≡◌, ◌^◌, ◌≤◌, min, length, take, drop, sym, ap, ◌∙◌, arith, rules}
+use Rattle.std.proofs.Common.{◌≡◌, ◌^◌, ◌≤◌, min, length, take, sym, ap, ◌∙◌, arith, rules}
 use Rattle.operators.specs.Heeded.{implication}
 use Rattle.std.proofs.lemmas.List.{take_all, length-map}
 use Rattle.theory.specs.Bases.{base_below}
@@ -18,7 +18,6 @@ returns g c =
     let count : c.count.result ≡ length all =
     c.count.ensures.value ∙ sym (length-map (entries c.fill.new.rules) implication) ∙ ap length (base ∙ take_all _ all fits) in
     record {
-      rules = filled_memory m means c.fill.new.rules c.args.memory.now _ (search rules)
-          (f.size ∙ ap length c.new-rules.ensures.memory) (f.past ∙ ap (drop (length (entries c.fill.new.rules))) c.new-rules.ensures.memory) base f.widths;
+      rules = filled_memory m means c.new-rules.result c.fill.new.rules c.args.memory.now _ (search rules) c.new-rules.ensures.memory f.kept base f.widths;
       answer = (count, omega (arith, count, fits));
     }

@@ -33,7 +33,7 @@ loop-call-preserved c =
     (subst (λ (k : TableClosure). DoesOver k.view.words.now k.view.places.now (capacity held.rules) asked (entries held.rules) held.mark c.answer.result
     (entries c.answer.new.self.rules) c.answer.new.self.mark) c.loop-call.invariant.0 c.answer.ensures.does) in (
       c.answer.ensures.closure ∙ c.loop-call.invariant.0,
-      c.answer.ensures.size ∙ c.loop-call.invariant.1,
+      c.answer.ensures.kept.size ∙ c.loop-call.invariant.1,
       ran_next start.closure.view.words.now start.closure.view.places.now
           (fit_parts start.closure.view.text.now start.closure.view.words.now start.closure.view.places.now start.closure.view.fit).signals
           (capacity start.rules) (omega arith) c.args.calls.now c.loop-call.call-index (vec_items c.loop-call.answers) (vec_items c.push.new.self)

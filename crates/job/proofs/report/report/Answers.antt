@@ -1,47 +1,30 @@
-use Rattle.std.proofs.Common.{◌≡◌, ◌≤◌, length, replicate, Err, sym, ap, ◌∙◌, arith, rules}
-use Rattle.std.proofs.lemmas.Bool.{cond-false, le-ltb}
+use Rattle.std.proofs.Common.{◌≡◌, length, subst, rules}
 use Rattle.table.specs.Reading.{read_of}
-use Rattle.job.specs.Faults.{fault_of}
-use Rattle.job.specs.Reports.{count_of, output_after, fitted, padded, fault_line}
-use Rattle.job.proofs.Reporting.{job_large, job_granted, job_refused}
+use Rattle.job.specs.Jobs.{Put, behind}
+use Rattle.job.specs.Reports.{fitted}
+use Rattle.job.proofs.Lined.{lined_behind, lined_fitted}
+use Rattle.job.proofs.Reporting.{framed, not_small}
 use Rattle.job.proofs.report.report.Goals as goal
 
-pub returns-in-Ok : goal.returns-in-Ok
-returns-in-Ok c =
-    let zeros : c.fill.new.self ≡ replicate (length c.args.out.now) 0 = search rules in
-    let size : length c.fill.new.self ≡ length c.args.out.now = search rules in
-    let large : 32 ≤ length c.args.out.now = omega arith in
-    let small = le-ltb (length c.args.out.now) 32 large in
-    let read = read_of c.args.text.now (length c.args.words.now) (length c.args.places.now) in
-    let whole = job_large c.args.text.now (length c.args.words.now) (length c.args.places.now) (length c.args.out.now) large
-    ∙ ap (λ n. fitted c.args.text.now n read) (sym size) in
-    let h = c.in-Ok.ensures in
-    record {
-      answer = h.answer ∙ sym (ap count_of whole);
-      output = job_granted (length c.args.out.now) c.in-Ok.count (fitted c.args.text.now (length c.fill.new.self) read) c.fill.new.self c.report_table.new.out
-          zeros h.answer h.output
-          ∙ sym (ap (output_after (length c.args.out.now)) whole);
-      words = h.words ∙ sym (cond-false _ _ _ small);
-      places = h.places ∙ sym (cond-false _ _ _ small);
-    }
+pub settle-requires-clause-near : goal.settle-requires-clause-near
+settle-requires-clause-near c = lined_behind 0 _ c.report_table-answer.result (lined_fitted c.args.text.now (length c.args.words.now) (length c.args.places.now) (length c.clear.new.out)) c.report_table-answer.ensures.answer
 
-pub returns-in-Err : goal.returns-in-Err
-returns-in-Err c =
-    let zeros : c.fill.new.self ≡ replicate (length c.args.out.now) 0 = search rules in
-    let size : length c.fill.new.self ≡ length c.args.out.now = search rules in
-    let large : 32 ≤ length c.args.out.now = omega arith in
-    let small = le-ltb (length c.args.out.now) 32 large in
-    let read = read_of c.args.text.now (length c.args.words.now) (length c.args.places.now) in
-    let whole = job_large c.args.text.now (length c.args.words.now) (length c.args.places.now) (length c.args.out.now) large
-    ∙ ap (λ n. fitted c.args.text.now n read) (sym size) in
-    let h = c.in-Err.ensures in
-    let same = c.refuse.ensures.answer in
-    let long : length c.report_table.new.out ≡ length c.args.out.now = search rules in
-    record {
-      answer = ap Err same ∙ h.answer ∙ sym (ap count_of whole);
-      output = job_refused (length c.args.out.now) (fitted c.args.text.now (length c.fill.new.self) read) c.in-Err.fault c.refuse.new.out
-          h.answer h.near (c.refuse.ensures.output ∙ ap (λ n. padded n (fault_line (fault_of c.in-Err.fault))) long)
-          ∙ sym (ap (output_after (length c.args.out.now)) whole);
-      words = h.words ∙ sym (cond-false _ _ _ small);
-      places = h.places ∙ sym (cond-false _ _ _ small);
-    }
+pub returns-clause-answer : goal.returns-clause-answer
+returns-clause-answer c =
+    let size : length c.clear.new.out ≡ length c.args.out.now = search rules in
+    let long : length c.report_table-answer.new.out ≡ length c.args.out.now = search rules in
+    (framed (length c.args.out.now) (fitted c.args.text.now (length c.args.out.now) (read_of c.args.text.now (length c.args.words.now) (length c.args.places.now))) c.report_table-answer.result c.settle.result c.clear.new.out c.report_table-answer.new.out c.settle.new.out
+    (not_small (length c.args.out.now) c.in_ok-clear.ensures.answer) c.clear.ensures.zeros long
+    (subst (λ n. c.report_table-answer.result ≡ behind 0 (fitted c.args.text.now n (read_of c.args.text.now (length c.args.words.now) (length c.args.places.now)))) size c.report_table-answer.ensures.answer)
+    (subst (λ n. Put 0 (fitted c.args.text.now n (read_of c.args.text.now (length c.args.words.now) (length c.args.places.now))) c.clear.new.out c.report_table-answer.new.out) size c.report_table-answer.ensures.output)
+    (lined_fitted c.args.text.now (length c.args.words.now) (length c.args.places.now) (length c.args.out.now)) c.settle.ensures.answer c.settle.ensures.output).0
+
+pub returns-clause-output : goal.returns-clause-output
+returns-clause-output c =
+    let size : length c.clear.new.out ≡ length c.args.out.now = search rules in
+    let long : length c.report_table-answer.new.out ≡ length c.args.out.now = search rules in
+    (framed (length c.args.out.now) (fitted c.args.text.now (length c.args.out.now) (read_of c.args.text.now (length c.args.words.now) (length c.args.places.now))) c.report_table-answer.result c.settle.result c.clear.new.out c.report_table-answer.new.out c.settle.new.out
+    (not_small (length c.args.out.now) c.in_ok-clear.ensures.answer) c.clear.ensures.zeros long
+    (subst (λ n. c.report_table-answer.result ≡ behind 0 (fitted c.args.text.now n (read_of c.args.text.now (length c.args.words.now) (length c.args.places.now)))) size c.report_table-answer.ensures.answer)
+    (subst (λ n. Put 0 (fitted c.args.text.now n (read_of c.args.text.now (length c.args.words.now) (length c.args.places.now))) c.clear.new.out c.report_table-answer.new.out) size c.report_table-answer.ensures.output)
+    (lined_fitted c.args.text.now (length c.args.words.now) (length c.args.places.now) (length c.args.out.now)) c.settle.ensures.answer c.settle.ensures.output).1

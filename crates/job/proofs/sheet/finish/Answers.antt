@@ -1,13 +1,14 @@
 use Rattle.std.proofs.Common.{◌≡◌, ◌+◌, length, Err, ap, ◌∙◌, zero-add, rules}
 use Rattle.std.proofs.lemmas.Result.{err_from_is_err_and}
-use Rattle.page.specs.Pages.{foot, signal_names}
+use Rattle.page.specs.Pages.{foot}
+use Rattle.view.specs.Shown.{signal_names}
 use Rattle.job.specs.Lists.{lines_of}
 use Rattle.job.proofs.Bodies.{end_refused, end_granted}
 use Rattle.job.proofs.sheet.finish.Goals as goal
 
 pub returns-in_err-done : goal.returns-in_err-done
 returns-in_err-done g c =
-    let names = (signal_names c.args.view.now.text.now c.args.view.now.words.now c.args.view.now.places.now) in
+    let names = (signal_names c.args.view.now) in
     let lines = lines_of g.E.Entry.shown names 0 c.args.entries.now in
     let given = lines_of g.E.Entry.shown names c.args.page.lines c.args.entries.now in
     let alike : given ≡ lines = ap (λ n. lines_of g.E.Entry.shown names n c.args.entries.now) c.requires.begun in
@@ -21,7 +22,7 @@ returns-in_err-done g c =
 
 pub returns : goal.returns
 returns g c =
-    let names = (signal_names c.args.view.now.text.now c.args.view.now.words.now c.args.view.now.places.now) in
+    let names = (signal_names c.args.view.now) in
     let lines = lines_of g.E.Entry.shown names 0 c.args.entries.now in
     let given = lines_of g.E.Entry.shown names c.args.page.lines c.args.entries.now in
     let alike : given ≡ lines = ap (λ n. lines_of g.E.Entry.shown names n c.args.entries.now) c.requires.begun in

@@ -1,7 +1,7 @@
 use Rattle.std.proofs.Common.{◌≡◌, length}
-use Rattle.operators.proofs.ByColumns.{Made}
+use Rattle.operators.specs.Columns.{Turned}
 use Rattle.operators.proofs.columns.columns_of.Given as goal
 
--- the words so far are columns
-abbrev pub invariant-loop-i : goal.invariant-loop-i
-invariant-loop-i l = (length l.columns ≡ 480) × Made l.width l.rows l.columns l.i
+-- the columns so far
+abbrev pub invariant-loop-k : goal.invariant-loop-k
+invariant-loop-k l = (length l.columns ≡ 60) × Turned l.k l.rows l.columns

@@ -1,14 +1,10 @@
 use Rattle.std.proofs.Common.{◌-◌, ◌≤◌, length, sym, ap, ◌∙◌, arith}
 use lib.Bits.{bit_and, bit_or}
 use lib.Count.{ones}
-use Rattle.theory.proofs.Lattice.{sub_refl}
 use Rattle.operators.proofs.Counting.{ones_part, missing_sum, turn_fires, turn_waits}
 use Rattle.operators.proofs.Told.{word_of, width_of}
 use Rattle.operators.proofs.rule_closure.count_missing.Goals as goal
 use Rattle.operators.proofs.rule_closure.count_missing.Goals.{then-lacking-eq0, else-lacking-eq0}
-
-pub loop-i-init : goal.loop-i-init
-loop-i-init c = (λ i rule l h. absurd (omega arith), sub_refl c.args.start, λ z _ s. s)
 
 pub overflow_sub-lacking : goal.overflow_sub-lacking
 overflow_sub-lacking c = ones_part c.word-needed.result c.args.start

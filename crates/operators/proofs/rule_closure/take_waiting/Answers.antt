@@ -1,15 +1,11 @@
 use Rattle.std.proofs.Common.{◌-◌, ◌≤◌, length, get_or, sym, ap, ◌∙◌, arith}
 use lib.Bits.{bit_and, bit_or, bit_xor}
 use lib.Count.{ones, ones-le}
-use Rattle.theory.proofs.Lattice.{sub_refl}
 use Rattle.operators.proofs.Counting.{ones_part, found_le, taken_sum, turn_fires, turn_waits, later_set, later_same, counted_same}
 use Rattle.operators.proofs.Told.{word_of, width_of}
 use Rattle.operators.proofs.rule_closure.take_waiting.Goals as goal
 use Rattle.operators.proofs.rule_closure.take_waiting.Goals.{then-lacking-eq0, else-lacking-eq0}
 use Rattle.operators.proofs.rule_closure.take_waiting.Goals.{then-found-eq0-via-then-found-eq0, then-found-eq0-via-else-found-eq0+then-width}
-
-pub loop-i-init : goal.loop-i-init
-loop-i-init c = (λ i rule l h. absurd (omega arith), c.requires.counted, sub_refl c.args.word, λ z _ s. s)
 
 pub overflow_cast-found : goal.overflow_cast-found
 overflow_cast-found c =

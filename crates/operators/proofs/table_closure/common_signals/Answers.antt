@@ -1,24 +1,13 @@
-use Rattle.std.proofs.Common.{ap, ◌∙◌}
-use Rattle.std.proofs.lemmas.List.{take_all}
-use Rattle.theory.specs.Rows.{common}
-use Rattle.operators.proofs.Rows.{common_more_in, common_more_out}
+use Rattle.std.proofs.Common.{◌≡◌, ◌==◌, ◌∙◌, filter, fold, rules, ap, bit_and}
+use Rattle.std.proofs.iter.runs.Made.{chains}
+use Rattle.operators.proofs.Rows.{common_folded}
 use Rattle.operators.proofs.table_closure.common_signals.Goals as goal
-use Rattle.operators.proofs.table_closure.common_signals.Goals.{then-wanted-row, else-wanted-row}
-
-pub loop-row-preserved : goal.loop-row-preserved
-loop-row-preserved c =
-    elim c.if-wanted-row.branch [
-      | then-wanted-row w ↦
-          let e = common_more_in c.args.width c.args.rows.now c.args.wanted c.loop-row.row-index c.loop-row-test.true w.if-wanted-row.true in
-          cc
-      | else-wanted-row w ↦
-          let e = common_more_out c.args.width c.args.rows.now c.args.wanted c.loop-row.row-index c.loop-row-test.true w.if-wanted-row.false in
-          cc
-    ]
 
 pub returns : goal.returns
 returns c =
+    let rows = filter (λ row. bit_and c.args.wanted row == c.args.wanted) c.args.rows.now in
+    let folded : c.fold.result ≡ fold (λ word row. bit_and word row) c.all_signals.result rows = search (rules, chains) in
     record {
-      common = c.loop-row.invariant
-          ∙ ap (λ rows. common c.args.width rows c.args.wanted) (take_all c.loop-row.row-index c.args.rows.now c.loop-row-test.false);
+      common = folded ∙ ap (λ word. fold (λ word row. bit_and word row) word rows) c.all_signals.ensures.full
+          ∙ common_folded c.args.width c.args.wanted c.args.rows.now;
     }

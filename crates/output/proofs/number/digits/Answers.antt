@@ -1,12 +1,9 @@
-use Rattle.std.proofs.Common.{rules}
-use Rattle.output.proofs.Digits.{decimal_short, length_step, length_digit}
+use Rattle.std.proofs.Common.{rules, sym, arith}
+use Rattle.output.proofs.Digits.{length_between, length_digit}
 use Rattle.output.proofs.number.digits.Goals as goal
 
-pub overflow_add-count : goal.overflow_add-count
-overflow_add-count c = search (rules, decimal_short c.args.n)
+pub returns-in-Some-clause-count : goal.returns-in-Some-clause-count
+returns-in-Some-clause-count c = sym (length_between c.in-Some.power c.args.n c.in-Some.ensures.power_le c.in-Some.ensures.next_power_gt (search rules))
 
-pub loop-left-preserved : goal.loop-left-preserved
-loop-left-preserved c = search (rules, length_step c.loop-left.left)
-
-pub returns : goal.returns
-returns c = search (rules, length_digit c.loop-left.left, decimal_short c.args.n)
+pub returns-in-None-clause-count : goal.returns-in-None-clause-count
+returns-in-None-clause-count c = sym (length_digit c.args.n (omega (arith, c.in-None.ensures.none)))

@@ -1,80 +1,91 @@
-use Rattle.std.proofs.Common.{◌≡◌, ◌^◌, ◌<◌, ◌≤◌, min, [], ◌∷◌, length, drop, Err, sym, refl, ap, ◌∙◌, subst, arith, length-append, MatchResult}
+use Rattle.std.proofs.Common.{◌≡◌, ◌^◌, ◌<◌, ◌≤◌, ◌∷◌, [], length, Err, sym, ap, ◌∙◌, subst, arith, length-append, MatchResult}
 use Rattle.fault.specs.Layers.{in_trays}
 use Rattle.std.specs.List.{AllByRecursion}
 use Rattle.std.proofs.lemmas.Result.{err_from_is_err_and}
 use Rattle.theory.specs.Closures.{closed_below}
 use Rattle.tray.specs.Fault.{fault_of}
+use Rattle.tray.specs.Tray.{capacity, entries}
+use Rattle.tray.proofs.Puts.{kept_later}
 use Rattle.survey.specs.Fills.{words_of}
-use Rattle.tray.specs.Tray.{capacity, entries, max_entries}
-use Rattle.survey.specs.declared.call.Answer.TheVariants.{Listed, Refused}
-use Rattle.survey.proofs.Filling.{Filling, filling_start, filling_opened, filling_back, filling_more, filled_all, filled_some, stepped, step_ended, does_opened, entries_few, drop_later}
+use Rattle.survey.proofs.Filling.{Filling, filling_opened, filling_back, filling_more, filled_all, filled_some, stepped_opened, ended_opened, entries_few, kept_room}
 use Rattle.survey.proofs.fill.fill.Goals as goal
 
-pub loop-listed-init : goal.loop-listed-init
-loop-listed-init g c = (
-  refl,
-  refl,
-  filling_start c.open-survey.result.width (g.O.Operator.means c.open-survey.result.operator) c.open-survey.result.state (entries c.clear.new.self)
-      c.open-survey.ensures.start c.clear.ensures.empty,
-  refl,
-  refl,
-  refl,
-)
-
-pub returns-in_default : goal.returns-in_default
-returns-in_default g c =
-    let f = filling_opened g.O.Operator.span g.O.Operator.means c.args.operator c.open-survey.result.operator c.open-survey.result.width c.open-survey.ensures.operator c.open-survey.ensures.width c.loop-listed.survey.state (entries c.loop-listed.tray) c.loop-listed.invariant.2 in
-    let room : capacity c.loop-listed.tray ≡ capacity c.args.tray.now = ap (λ n. min n max_entries) (c.loop-listed.invariant.3 ∙ ap length c.clear.ensures.memory) in
-    let ended = step_ended (g.O.Operator.span c.args.operator) (g.O.Operator.span c.args.operator) (g.O.Operator.means c.args.operator) c.loop-listed.survey.state c.in_default.field-0 c.step.new.self.state refl
-    (does_opened g.O.Operator.span g.O.Operator.means c.args.operator c.open-survey.result.operator c.open-survey.result.width c.open-survey.ensures.operator c.open-survey.ensures.width c.loop-listed.survey.operator c.loop-listed.survey.width c.loop-listed.survey.state (Refused c.in_default.field-0)
-    c.step.new.self.state c.loop-listed.invariant.0 c.loop-listed.invariant.1 c.in_default.ensures.takes.does) in
-    let q = filled_all (g.O.Operator.span c.args.operator) (capacity c.args.tray.now) (g.O.Operator.means c.args.operator) c.loop-listed.survey.state (entries c.loop-listed.tray) f ended
-    (subst (λ n. length (entries c.loop-listed.tray) ≤ n) room (entries_few c.loop-listed.tray)) in
-    record {
-      sets = q.0;
-      widths = f.widths;
-      answer = q.1;
-      size = c.loop-listed.invariant.3 ∙ ap length c.clear.ensures.memory;
-      past = c.loop-listed.invariant.4 ∙ ap (drop (length (entries c.loop-listed.tray))) c.clear.ensures.memory;
-      link = c.loop-listed.invariant.5 ∙ c.clear.ensures.link;
-    }
-
-pub loop-listed-preserved : goal.loop-listed-preserved
-loop-listed-preserved g c =
-    let f = filling_opened g.O.Operator.span g.O.Operator.means c.args.operator c.open-survey.result.operator c.open-survey.result.width c.open-survey.ensures.operator c.open-survey.ensures.width c.loop-listed.survey.state (entries c.loop-listed.tray) c.loop-listed.invariant.2 in
-    let s = stepped (g.O.Operator.span c.args.operator) (g.O.Operator.span c.args.operator) (g.O.Operator.means c.args.operator) c.loop-listed.survey.state c.in-Ok.listed.0 c.in-Ok.listed.1 c.in-Ok.listed.2 c.step.new.self.state refl
-    (does_opened g.O.Operator.span g.O.Operator.means c.args.operator c.open-survey.result.operator c.open-survey.result.width c.open-survey.ensures.operator c.open-survey.ensures.width c.loop-listed.survey.operator c.loop-listed.survey.width c.loop-listed.survey.state (Listed c.in-Ok.listed.0 c.in-Ok.listed.1 c.in-Ok.listed.2)
-    c.step.new.self.state c.loop-listed.invariant.0 c.loop-listed.invariant.1 c.in-Ok.ensures.takes.does) in
+pub loop-set-preserved : goal.loop-set-preserved
+loop-set-preserved g c =
+    let span = g.O.Operator.span c.args.operator in
+    let means = g.O.Operator.means c.args.operator in
+    let f = filling_opened g.O.Operator.span g.O.Operator.means c.args.operator c.open-survey.result.operator c.open-survey.result.width c.open-survey.ensures.operator c.open-survey.ensures.width c.loop-set.survey.state (entries c.loop-set.tray) c.loop-set.invariant.2 in
+    let s = stepped_opened g.O.Operator.span g.O.Operator.means c.args.operator c.open-survey.result.operator c.open-survey.result.width c.open-survey.ensures.operator c.open-survey.ensures.width
+    c.loop-set.survey.operator c.loop-set.survey.width c.loop-set.survey.state c.in-Ok.set _ _ c.step.new.self.state c.loop-set.invariant.0 c.loop-set.invariant.1 c.in-Ok.ensures.takes.does in
     let put = c.in_ok-put.ensures.answer in
-    let more = subst (λ xs. Filling (g.O.Operator.span c.args.operator) (g.O.Operator.means c.args.operator) c.step.new.self.state xs) (sym put.1)
-    (filling_more (g.O.Operator.span c.args.operator) (g.O.Operator.means c.args.operator) c.loop-listed.survey.state (entries c.loop-listed.tray) c.in-Ok.listed.0 c.step.new.self.state f s) in (
-      c.step.ensures.takes.operator ∙ c.loop-listed.invariant.0,
-      c.step.ensures.takes.width ∙ c.loop-listed.invariant.1,
+    let more = subst (λ xs. Filling span means c.step.new.self.state xs) (sym put.1)
+    (filling_more span means c.loop-set.survey.state (entries c.loop-set.tray) c.in-Ok.set c.step.new.self.state f s) in (
+      c.step.ensures.takes.operator ∙ c.loop-set.invariant.0,
+      c.step.ensures.takes.width ∙ c.loop-set.invariant.1,
       filling_back g.O.Operator.span g.O.Operator.means c.args.operator c.open-survey.result.operator c.open-survey.result.width c.open-survey.ensures.operator c.open-survey.ensures.width c.step.new.self.state (entries c.put.new.self) more,
-      c.put.ensures.size ∙ c.loop-listed.invariant.3,
-      c.put.ensures.past ∙ drop_later (length (entries c.loop-listed.tray)) (length (entries c.put.new.self)) c.loop-listed.tray.memory.now c.clear.new.self.memory.now
-          (omega (arith, ap length put.1, length-append (entries c.loop-listed.tray) (c.in-Ok.listed.0 ∷ []))) c.loop-listed.invariant.4,
-      c.put.ensures.link ∙ c.loop-listed.invariant.5,
+      kept_later c.clear.new.self c.loop-set.tray c.put.new.self c.loop-set.invariant.3 c.put.ensures.kept
+          (omega (arith, ap length put.1, length-append (entries c.loop-set.tray) (c.in-Ok.set ∷ []))),
     )
 
-pub returns-in_err-put : goal.returns-in_err-put
-returns-in_err-put g c =
-    let f = filling_opened g.O.Operator.span g.O.Operator.means c.args.operator c.open-survey.result.operator c.open-survey.result.width c.open-survey.ensures.operator c.open-survey.ensures.width c.loop-listed.survey.state (entries c.loop-listed.tray) c.loop-listed.invariant.2 in
-    let room : capacity c.loop-listed.tray ≡ capacity c.args.tray.now = ap (λ n. min n max_entries) (c.loop-listed.invariant.3 ∙ ap length c.clear.ensures.memory) in
-    let s = stepped (g.O.Operator.span c.args.operator) (g.O.Operator.span c.args.operator) (g.O.Operator.means c.args.operator) c.loop-listed.survey.state c.in-Ok.listed.0 c.in-Ok.listed.1 c.in-Ok.listed.2 c.step.new.self.state refl
-    (does_opened g.O.Operator.span g.O.Operator.means c.args.operator c.open-survey.result.operator c.open-survey.result.width c.open-survey.ensures.operator c.open-survey.ensures.width c.loop-listed.survey.operator c.loop-listed.survey.width c.loop-listed.survey.state (Listed c.in-Ok.listed.0 c.in-Ok.listed.1 c.in-Ok.listed.2)
-    c.step.new.self.state c.loop-listed.invariant.0 c.loop-listed.invariant.1 c.in-Ok.ensures.takes.does) in
+-- no place for a set that was listed
+pub returns-in_err-put-clause-sets : goal.returns-in_err-put-clause-sets
+returns-in_err-put-clause-sets g c =
+    let span = g.O.Operator.span c.args.operator in
+    let means = g.O.Operator.means c.args.operator in
+    let f = filling_opened g.O.Operator.span g.O.Operator.means c.args.operator c.open-survey.result.operator c.open-survey.result.width c.open-survey.ensures.operator c.open-survey.ensures.width c.loop-set.survey.state (entries c.loop-set.tray) c.loop-set.invariant.2 in
+    let s = stepped_opened g.O.Operator.span g.O.Operator.means c.args.operator c.open-survey.result.operator c.open-survey.result.width c.open-survey.ensures.operator c.open-survey.ensures.width
+    c.loop-set.survey.operator c.loop-set.survey.width c.loop-set.survey.state c.in-Ok.set _ _ c.step.new.self.state c.loop-set.invariant.0 c.loop-set.invariant.1 c.in-Ok.ensures.takes.does in
+    let room = kept_room c.args.tray.now c.clear.new.self c.loop-set.tray c.clear.ensures.memory c.loop-set.invariant.3 in
     let put = c.in_err-put.ensures.answer in
-    let q = filled_some (g.O.Operator.span c.args.operator) (capacity c.args.tray.now) (g.O.Operator.means c.args.operator) c.loop-listed.survey.state (entries c.loop-listed.tray) c.in-Ok.listed.0 c.step.new.self.state f s (put.0 ∙ room) in
+    let q = filled_some span (capacity c.args.tray.now) means c.loop-set.survey.state (entries c.loop-set.tray) c.in-Ok.set c.step.new.self.state f s (put.0 ∙ room) in
+    ap (λ t. words_of (entries t)) put.1 ∙ q.0
+
+pub returns-in_err-put-clause-widths : goal.returns-in_err-put-clause-widths
+returns-in_err-put-clause-widths g c =
+    let f = filling_opened g.O.Operator.span g.O.Operator.means c.args.operator c.open-survey.result.operator c.open-survey.result.width c.open-survey.ensures.operator c.open-survey.ensures.width c.loop-set.survey.state (entries c.loop-set.tray) c.loop-set.invariant.2 in
+    subst (λ t. AllByRecursion (λ x. x.width ≡ g.O.Operator.span c.args.operator) (entries t)) (sym c.in_err-put.ensures.answer.1) f.widths
+
+pub returns-in_err-put-clause-answer : goal.returns-in_err-put-clause-answer
+returns-in_err-put-clause-answer g c =
+    let span = g.O.Operator.span c.args.operator in
+    let means = g.O.Operator.means c.args.operator in
+    let f = filling_opened g.O.Operator.span g.O.Operator.means c.args.operator c.open-survey.result.operator c.open-survey.result.width c.open-survey.ensures.operator c.open-survey.ensures.width c.loop-set.survey.state (entries c.loop-set.tray) c.loop-set.invariant.2 in
+    let s = stepped_opened g.O.Operator.span g.O.Operator.means c.args.operator c.open-survey.result.operator c.open-survey.result.width c.open-survey.ensures.operator c.open-survey.ensures.width
+    c.loop-set.survey.operator c.loop-set.survey.width c.loop-set.survey.state c.in-Ok.set _ _ c.step.new.self.state c.loop-set.invariant.0 c.loop-set.invariant.1 c.in-Ok.ensures.takes.does in
+    let room = kept_room c.args.tray.now c.clear.new.self c.loop-set.tray c.clear.ensures.memory c.loop-set.invariant.3 in
+    let put = c.in_err-put.ensures.answer in
+    let q = filled_some span (capacity c.args.tray.now) means c.loop-set.survey.state (entries c.loop-set.tray) c.in-Ok.set c.step.new.self.state f s (put.0 ∙ room) in
     let p = err_from_is_err_and c.from_residual.result c.from_residual.ensures.1 in
     let same : c.from_residual.result ≡ Err c.in_err-put.field-0.0 = p.1 ∙ ap Err p.2 in
-    let tray = put.1 in
-    record {
-      sets = ap (λ t. words_of (entries t)) tray ∙ q.0;
-      widths = subst (λ t. AllByRecursion (λ x. x.width ≡ (g.O.Operator.span c.args.operator)) (entries t)) (sym tray) f.widths;
-      answer = subst (λ r. MatchResult r (λ _. length (closed_below (g.O.Operator.means c.args.operator) (2 ^ (g.O.Operator.span c.args.operator))) ≤ capacity c.args.tray.now)
-          (λ fault. (capacity c.args.tray.now < length (closed_below (g.O.Operator.means c.args.operator) (2 ^ (g.O.Operator.span c.args.operator)))) × (fault_of fault ≡ in_trays 21))) (sym same) (q.1, put.2);
-      size = ap (λ t. length t.memory.now) tray ∙ c.loop-listed.invariant.3 ∙ ap length c.clear.ensures.memory;
-      past = subst (λ t. drop (length (entries t)) t.memory.now ≡ drop (length (entries t)) c.args.tray.now.memory.now) (sym tray) (c.loop-listed.invariant.4 ∙ ap (drop (length (entries c.loop-listed.tray))) c.clear.ensures.memory);
-      link = c.put.ensures.link ∙ c.loop-listed.invariant.5 ∙ c.clear.ensures.link;
-    }
+    subst (λ r. MatchResult r (λ _. length (closed_below means (2 ^ span)) ≤ capacity c.args.tray.now)
+    (λ fault. (capacity c.args.tray.now < length (closed_below means (2 ^ span))) × (fault_of fault ≡ in_trays 21))) (sym same) (q.1, put.2)
+
+-- all sets are listed
+pub returns-clause-sets : goal.returns-clause-sets
+returns-clause-sets g c =
+    let span = g.O.Operator.span c.args.operator in
+    let means = g.O.Operator.means c.args.operator in
+    let f = filling_opened g.O.Operator.span g.O.Operator.means c.args.operator c.open-survey.result.operator c.open-survey.result.width c.open-survey.ensures.operator c.open-survey.ensures.width c.loop-set.survey.state (entries c.loop-set.tray) c.loop-set.invariant.2 in
+    let room = kept_room c.args.tray.now c.clear.new.self c.loop-set.tray c.clear.ensures.memory c.loop-set.invariant.3 in
+    let ended = ended_opened g.O.Operator.span g.O.Operator.means c.args.operator c.open-survey.result.operator c.open-survey.result.width c.open-survey.ensures.operator c.open-survey.ensures.width
+    c.loop-set.survey.operator c.loop-set.survey.width c.loop-set.survey.state c.in_default.field-0 c.step.new.self.state c.loop-set.invariant.0 c.loop-set.invariant.1 c.in_default.ensures.takes.does in
+    let q = filled_all span (capacity c.args.tray.now) means c.loop-set.survey.state (entries c.loop-set.tray) f ended
+    (subst (λ n. length (entries c.loop-set.tray) ≤ n) room (entries_few c.loop-set.tray)) in
+    q.0
+
+pub returns-clause-widths : goal.returns-clause-widths
+returns-clause-widths g c =
+    let f = filling_opened g.O.Operator.span g.O.Operator.means c.args.operator c.open-survey.result.operator c.open-survey.result.width c.open-survey.ensures.operator c.open-survey.ensures.width c.loop-set.survey.state (entries c.loop-set.tray) c.loop-set.invariant.2 in
+    f.widths
+
+pub returns-clause-answer : goal.returns-clause-answer
+returns-clause-answer g c =
+    let span = g.O.Operator.span c.args.operator in
+    let means = g.O.Operator.means c.args.operator in
+    let f = filling_opened g.O.Operator.span g.O.Operator.means c.args.operator c.open-survey.result.operator c.open-survey.result.width c.open-survey.ensures.operator c.open-survey.ensures.width c.loop-set.survey.state (entries c.loop-set.tray) c.loop-set.invariant.2 in
+    let room = kept_room c.args.tray.now c.clear.new.self c.loop-set.tray c.clear.ensures.memory c.loop-set.invariant.3 in
+    let ended = ended_opened g.O.Operator.span g.O.Operator.means c.args.operator c.open-survey.result.operator c.open-survey.result.width c.open-survey.ensures.operator c.open-survey.ensures.width
+    c.loop-set.survey.operator c.loop-set.survey.width c.loop-set.survey.state c.in_default.field-0 c.step.new.self.state c.loop-set.invariant.0 c.loop-set.invariant.1 c.in_default.ensures.takes.does in
+    let q = filled_all span (capacity c.args.tray.now) means c.loop-set.survey.state (entries c.loop-set.tray) f ended
+    (subst (λ n. length (entries c.loop-set.tray) ≤ n) room (entries_few c.loop-set.tray)) in
+    q.1

@@ -1,16 +1,14 @@
-use Rattle.std.proofs.Common.{◌≡◌, ◌-◌, ◌^◌, length, drop}
-use Rattle.tray.specs.Tray.{entries}
+use Rattle.std.proofs.Common.{◌≡◌, ◌-◌, ◌^◌}
+use Rattle.tray.specs.Tray.{Kept, entries}
 use Rattle.survey.proofs.Filling.{Filling, done_to}
 use Rattle.survey.proofs.fill.fill.Given as goal
 
--- the survey is that of the operator, the tray holds what was listed, and its memory past the entries is as it was
-abbrev pub invariant-loop-listed : goal.invariant-loop-listed
-invariant-loop-listed g l =
+-- the survey is that of the operator, and the tray holds what was listed
+abbrev pub invariant-loop-set : goal.invariant-loop-set
+invariant-loop-set g l =
     (l.survey.operator ≡ l.initial.survey.operator) × (l.survey.width ≡ l.initial.survey.width)
     × Filling l.initial.survey.width (g.O.Operator.means l.initial.survey.operator) l.survey.state (entries l.tray)
-    × (length l.tray.memory.now ≡ length l.initial.tray.memory.now)
-    × (drop (length (entries l.tray)) l.tray.memory.now ≡ drop (length (entries l.tray)) l.initial.tray.memory.now)
-    × (l.tray.memory.ghost_name ≡ l.initial.tray.memory.ghost_name)
+    × Kept l.initial.tray l.tray
 
-abbrev pub decreases-loop-listed : goal.decreases-loop-listed
-decreases-loop-listed g l = 2 ^ l.survey.width - done_to l.survey.width l.survey.state
+abbrev pub decreases-loop-set : goal.decreases-loop-set
+decreases-loop-set g l = 2 ^ l.survey.width - done_to l.survey.width l.survey.state

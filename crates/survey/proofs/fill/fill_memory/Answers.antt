@@ -1,4 +1,4 @@
-use Rattle.std.proofs.Common.{◌≡◌, ◌^◌, ◌≤◌, min, length, take, drop, sym, ap, ◌∙◌, arith, rules}
+use Rattle.std.proofs.Common.{◌≡◌, ◌^◌, ◌≤◌, min, length, take, sym, ap, ◌∙◌, arith, rules}
 use Rattle.std.proofs.lemmas.List.{take_all, length-map}
 use Rattle.theory.specs.Closures.{closed_below}
 use Rattle.tray.specs.Tray.{capacity, entries, max_entries}
@@ -15,7 +15,7 @@ returns g c =
     let count : c.count.result ≡ length all =
     c.count.ensures.value ∙ sym (length-map (entries c.fill.new.tray) (λ s. s.word)) ∙ ap length (words ∙ take_all _ all fits) in
     record {
-      sets = filled_memory (g.O.Operator.span c.args.operator) (g.O.Operator.means c.args.operator) c.fill.new.tray c.args.memory.now _ (search rules)
-          (f.size ∙ ap length c.new-tray.ensures.memory) (f.past ∙ ap (drop (length (entries c.fill.new.tray))) c.new-tray.ensures.memory) words f.widths;
+      sets = filled_memory (g.O.Operator.span c.args.operator) (g.O.Operator.means c.args.operator) c.new-tray.result c.fill.new.tray c.args.memory.now _ (search rules)
+          c.new-tray.ensures.memory f.kept words f.widths;
       answer = (count, omega (arith, count, fits));
     }

@@ -1,9 +1,6 @@
-use Rattle.std.proofs.Common.{sym, refl, ap, ◌∙◌}
-use Rattle.survey.proofs.Tracks.{ran_none, ran_next, ran_all}
+use Rattle.std.proofs.Common.{sym, ap, ◌∙◌}
+use Rattle.survey.proofs.Tracks.{ran_next}
 use Rattle.survey.proofs.run.run.Goals as goal
-
-pub loop-call-init : goal.loop-call-init
-loop-call-init g c = (refl, refl, simp (c.new-answers.ensures.items, c.open-survey.ensures.start) (ran_none _ _))
 
 pub loop-call-preserved : goal.loop-call-preserved
 loop-call-preserved g c = (
@@ -15,10 +12,3 @@ loop-call-preserved g c = (
       (c.loop-call.invariant.1 ∙ c.open-survey.ensures.width ∙ ap g.O.Operator.span (sym c.open-survey.ensures.operator))
       c.loop-call-test.true c.call-item.is c.in_ok-push.ensures.items c.answer.ensures.takes.does c.loop-call.invariant.2,
 )
-
-pub returns : goal.returns
-returns g c =
-    record {
-      law = ran_all g.O.Operator.span g.O.Operator.means c.args.calls.now c.args.operator c.open-survey.result.operator
-          c.loop-call.call-index _ c.loop-call.survey.state c.open-survey.ensures.operator c.loop-call-test.false c.loop-call.invariant.2;
-    }

@@ -15,7 +15,9 @@ returns g c =
     λ e. c.if-count-capacity.false (e ∙ sym c.capacity.ensures.value) in
     record {
       answer = (put_free xs count place entry is room, put_entries xs count place entry is room);
-      size = length-set xs place entry;
-      past = put_past xs count place entry is room;
-      link = refl {a = c.args.self.now.memory.ghost_name};
+      kept = record {
+        size = length-set xs place entry;
+        past = put_past xs count place entry is room;
+        link = refl {a = c.args.self.now.memory.ghost_name};
+      };
     }

@@ -1,36 +1,28 @@
-use Rattle.std.proofs.Common.{◌≡◌, ◌+◌, ◌-◌, ◌≤◌, length, get_or, take, Ok, sym, ap, ◌∙◌, subst, arith}
-use Rattle.output.specs.Puts.{put_at}
-use Rattle.output.proofs.Writing.{wrote_none}
-use Rattle.table.specs.Tables.{line, cells}
-use Rattle.output.proofs.Joins.{step_room, step_wrote, all_wrote}
+use Rattle.std.proofs.Common.{◌≡◌, ◌+◌, ◌≤◌, length, take, ap₂, sym, subst}
+use Rattle.table.specs.Tables.{cells}
+use Rattle.view.specs.Shown.{row_lines}
+use Rattle.view.specs.Texts.{rows_text}
+use Rattle.view.proofs.LinesPut.{NextLine, line_grows, line_refused, line_room}
 use Rattle.view.proofs.write.put_rows.Goals as goal
+use Rattle.view.proofs.write.put_rows.Goals.{After-row_cells-row}
 
-pub loop-word-init : goal.loop-word-init
-loop-word-init c = wrote_none c.args.start c.args.out.now (omega arith)
+next : (c : After-row_cells-row)
+    → NextLine (cells c.signals-signals.result) c.words-word-items.result.now c.loop-word.word-index c.args.out.now c.loop-word.out (take c.signals-signals.result c.row_cells-row.result)
+next c =
+    let same : rows_text c.signals-signals.result c.words-word-items.result.now ≡ row_lines c.args.view.now = ap₂ rows_text c.signals-signals.ensures.count c.words-word-items.ensures.words in
+    record {
+      other = 0;
+      within = c.loop-word-test.true;
+      room = subst (λ lines. c.args.out.now.at + length lines ≤ length c.args.out.now.bytes.now) (sym same) c.requires.room;
+      so_far = c.loop-word.invariant;
+      same = c.row_cells-row.ensures.row;
+    }
 
 pub put_line-requires : goal.put_line-requires
-put_line-requires c =
-    let whole : c.args.signals - 0 ≡ c.args.signals = omega arith in
-    let same : take (c.args.signals - 0) c.row_cells-row.result ≡ cells c.args.signals (get_or c.args.words.now c.loop-word.word-index 0) =
-    ap (λ n. take n c.row_cells-row.result) whole ∙ c.row_cells-row.ensures.row in
-    subst (λ bs. c.loop-word.at + length (line bs) ≤ length c.loop-word.out) (sym same)
-    (step_room (λ w. line (cells c.args.signals w)) c.args.words.now c.loop-word.word-index 0
-    c.args.start c.args.out.now c.loop-word.out c.loop-word.at c.loop-word-test.true c.requires.room c.loop-word.invariant)
+put_line-requires c = record { room = line_room _ _ _ _ _ _ (next (goal.at.put_line-requires c).After-row_cells-row) }
 
 pub loop-word-preserved : goal.loop-word-preserved
-loop-word-preserved c =
-    let whole : c.args.signals - 0 ≡ c.args.signals = omega arith in
-    let same : take (c.args.signals - 0) c.row_cells-row.result ≡ cells c.args.signals (get_or c.args.words.now c.loop-word.word-index 0) =
-    ap (λ n. take n c.row_cells-row.result) whole ∙ c.row_cells-row.ensures.row in
-    let granted = c.in_ok-at.ensures.answer in
-    let next : c.in_ok-at.at ≡ c.loop-word.at + length (line (take (c.args.signals - 0) c.row_cells-row.result)) = cc in
-    step_wrote (λ w. line (cells c.args.signals w)) c.args.words.now c.loop-word.word-index 0
-    c.args.start c.args.out.now c.loop-word.out c.put_line.new.out c.loop-word.at c.in_ok-at.at c.loop-word-test.true c.requires.room c.loop-word.invariant
-    (next ∙ ap (λ bs. c.loop-word.at + length (line bs)) same)
-    (c.put_line.ensures.output ∙ ap (λ bs. put_at c.loop-word.at (line bs) c.loop-word.out) same)
+loop-word-preserved c = line_grows _ _ _ _ _ _ (next (goal.at.loop-word-preserved c).After-row_cells-row) _ _ c.put_line.ensures.puts
 
-pub returns : goal.returns
-returns c =
-    let w = all_wrote (λ w. line (cells c.args.signals w)) c.args.words.now c.loop-word.word-index c.args.start c.args.out.now c.loop-word.out c.loop-word.at
-    (omega arith) c.loop-word.invariant in
-    record { answer = ap Ok w.behind; output = w.whole }
+pub returns-in_err-put_line : goal.returns-in_err-put_line
+returns-in_err-put_line c = line_refused _ _ _ _ _ _ (next (goal.at.returns-in_err-put_line c).After-row_cells-row) _ _ c.in_err-put_line.ensures.puts

@@ -1,47 +1,50 @@
-use Rattle.std.proofs.Common.{◌≤◌, length, arith, rules}
+use Rattle.std.proofs.Common.{◌+◌, ◌≤◌, length, arith}
+use Rattle.output.specs.Outputs.{Grows}
 use Rattle.table.proofs.Agreement.{read_again}
-use Rattle.view.specs.Texts.{shown_text}
-use Rattle.view.specs.Views.{table_of}
-use Rattle.view.proofs.Laws.{fit_parts, fit_lawful}
-use Rattle.view.proofs.Wholes.{head_room, head_wrote, names_room, names_wrote, rows_room, text_answer, text_output}
+use Rattle.table.specs.Grammar.{ReadAgain}
+use Rattle.view.specs.declared.table_view.TableView.{TableView}
+use Rattle.view.specs.Shown.{shown, table_text}
+use Rattle.view.proofs.Laws.{fit_lawful}
+use Rattle.view.proofs.Wholes.{head_lines, head_grows, names_grow, names_room, names_unrefused, rows_room, text_fits, text_puts}
 use Rattle.view.proofs.write.write_table.Goals as goal
+use Rattle.view.proofs.write.write_table.Goals.{After-room, In_ok-put_head, In_ok-put_names}
 
-pub returns-then-text_length-out : goal.returns-then-text_length-out
-returns-then-text_length-out c =
-    record {
-      answer = search rules;
-      output = search rules;
-      again = read_again (table_of c.args.view.now.text.now c.args.view.now.words.now c.args.view.now.places.now) (fit_lawful c.args.view.now.text.now c.args.view.now.words.now c.args.view.now.places.now c.args.view.now.fit);
-    }
+again : (view : TableView) → ReadAgain (shown view)
+again view = read_again (shown view) (fit_lawful view.text.now view.words.now view.places.now view.fit)
 
-pub put_head-requires : goal.put_head-requires
-put_head-requires c =
-    let fits : length (shown_text c.args.view.now.text.now c.args.view.now.words.now c.args.view.now.places.now) ≤ length c.args.out.now = omega arith in
-    head_room c.args.view.now.text.now c.args.view.now.words.now c.args.view.now.places.now c.args.out.now fits c.rows.result c.signals-signals.result c.rows.ensures.count c.signals-signals.ensures.count
+fits : (c : In_ok-put_head) → c.args.out.now.at + length (table_text c.args.view.now) ≤ length c.args.out.now.bytes.now
+fits c = text_fits c.args.view.now c.args.out.now c.text_length.result c.room.result c.text_length.ensures.count c.room.ensures.value (omega (arith, c.if-text_length-room.false))
+
+head_put : (c : In_ok-put_head) → Grows (head_lines c.args.view.now) c.args.out.now c.put_head.new.out
+head_put c = head_grows c.args.view.now c.args.out.now (fits c) c.rows.result c.signals.result c.rows.ensures.count c.signals.ensures.count c.put_head.new.out _ c.put_head.ensures.puts
+
+pub returns-then-text_length-room-clause-again : goal.returns-then-text_length-room-clause-again
+returns-then-text_length-room-clause-again c = again c.args.view.now
 
 pub put_names-requires : goal.put_names-requires
 put_names-requires c =
-    let fits : length (shown_text c.args.view.now.text.now c.args.view.now.words.now c.args.view.now.places.now) ≤ length c.args.out.now = omega arith in
-    let w1 = head_wrote c.args.view.now.text.now c.args.view.now.words.now c.args.view.now.places.now c.args.out.now fits c.rows.result c.signals-signals.result c.put_head.new.out c.in_ok-at.at c.rows.ensures.count c.signals-signals.ensures.count c.in_ok-at.ensures.answer c.put_head.ensures.output in
-    names_room c.args.view.now.text.now c.args.view.now.words.now c.args.view.now.places.now c.args.out.now fits c.put_head.new.out c.in_ok-at.at w1
+    let k = (goal.at.put_names-requires c).In_ok-put_head in
+    record { room = names_room c.args.view.now c.args.out.now (fits k) c.put_head.new.out (head_put k) }
+
+pub returns-in_err-put_names-clause-puts : goal.returns-in_err-put_names-clause-puts
+returns-in_err-put_names-clause-puts c =
+    let k = (goal.at.returns-in_err-put_names-clause-puts c).In_ok-put_head in
+    names_unrefused c.args.view.now c.args.out.now (fits k) c.put_head.new.out c.put_names.new.out _ (head_put k) c.in_err-put_names.ensures.puts
+
+pub returns-in_err-put_names-clause-again : goal.returns-in_err-put_names-clause-again
+returns-in_err-put_names-clause-again c = again c.args.view.now
 
 pub put_rows-requires : goal.put_rows-requires
 put_rows-requires c =
-    let fits : length (shown_text c.args.view.now.text.now c.args.view.now.words.now c.args.view.now.places.now) ≤ length c.args.out.now = omega arith in
-    let w1 = head_wrote c.args.view.now.text.now c.args.view.now.words.now c.args.view.now.places.now c.args.out.now fits c.rows.result c.signals-signals.result c.put_head.new.out c.in_ok-at.at c.rows.ensures.count c.signals-signals.ensures.count c.in_ok-at.ensures.answer c.put_head.ensures.output in
-    let w2 = names_wrote c.args.view.now.text.now c.args.view.now.words.now c.args.view.now.places.now c.args.out.now fits c.put_head.new.out c.put_names.new.out c.in_ok-at.at c.in_ok-at-2.at w1 c.in_ok-at-2.ensures.answer c.put_names.ensures.output in
-    record {
-      narrow = omega (arith, (fit_parts _ c.args.view.now.words.now _ c.args.view.now.fit).signals);
-      room = rows_room c.args.view.now.text.now c.args.view.now.words.now c.args.view.now.places.now c.args.out.now fits c.signals-signals.result c.words.result.now c.put_names.new.out c.in_ok-at-2.at c.signals-signals.ensures.count c.words.ensures.words w2;
-    }
+    let k = (goal.at.put_rows-requires c).In_ok-put_head in
+    let w = names_grow c.args.view.now c.args.out.now (fits k) c.put_head.new.out c.put_names.new.out _ (head_put k) c.put_names.ensures.puts in
+    record { room = rows_room c.args.view.now c.args.out.now (fits k) c.put_names.new.out w }
 
-pub returns : goal.returns
-returns c =
-    let fits : length (shown_text c.args.view.now.text.now c.args.view.now.words.now c.args.view.now.places.now) ≤ length c.args.out.now = omega arith in
-    let w1 = head_wrote c.args.view.now.text.now c.args.view.now.words.now c.args.view.now.places.now c.args.out.now fits c.rows.result c.signals-signals.result c.put_head.new.out c.in_ok-at.at c.rows.ensures.count c.signals-signals.ensures.count c.in_ok-at.ensures.answer c.put_head.ensures.output in
-    let w2 = names_wrote c.args.view.now.text.now c.args.view.now.words.now c.args.view.now.places.now c.args.out.now fits c.put_head.new.out c.put_names.new.out c.in_ok-at.at c.in_ok-at-2.at w1 c.in_ok-at-2.ensures.answer c.put_names.ensures.output in
-    record {
-      answer = text_answer c.args.view.now.text.now c.args.view.now.words.now c.args.view.now.places.now c.args.out.now fits c.signals-signals.result c.words.result.now c.put_names.new.out c.in_ok-at-2.at _ c.signals-signals.ensures.count c.words.ensures.words w2 c.put_rows.ensures.answer;
-      output = text_output c.args.view.now.text.now c.args.view.now.words.now c.args.view.now.places.now c.args.out.now fits c.signals-signals.result c.words.result.now c.put_names.new.out _ c.in_ok-at-2.at c.signals-signals.ensures.count c.words.ensures.words w2 c.put_rows.ensures.output;
-      again = read_again (table_of c.args.view.now.text.now c.args.view.now.words.now c.args.view.now.places.now) (fit_lawful c.args.view.now.text.now c.args.view.now.words.now c.args.view.now.places.now c.args.view.now.fit);
-    }
+pub returns-clause-puts : goal.returns-clause-puts
+returns-clause-puts c =
+    let k = (goal.at.returns-clause-puts c).In_ok-put_head in
+    let w = names_grow c.args.view.now c.args.out.now (fits k) c.put_head.new.out c.put_names.new.out _ (head_put k) c.put_names.ensures.puts in
+    text_puts c.args.view.now c.args.out.now (fits k) c.put_names.new.out c.put_rows.new.out _ w c.put_rows.ensures.puts
+
+pub returns-clause-again : goal.returns-clause-again
+returns-clause-again c = again c.args.view.now

@@ -1,9 +1,6 @@
 use Rattle.operators.specs.TableClosure.{signals_of}
-use Rattle.operators.proofs.Rows.{told_below, told_lt, told_word, shared_at}
+use Rattle.operators.proofs.Rows.{told_lt, told_word, shared_at}
 use Rattle.operators.proofs.table_closure.TableClosureOperator.closure.Goals as goal
-
-pub common_word-requires : goal.common_word-requires
-common_word-requires c = told_below c.args.set c.word.ensures.value (c.spans.ensures.told.0 c.if-not-spans.false)
 
 pub with_word-requires : goal.with_word-requires
 with_word-requires c =

@@ -1,9 +1,7 @@
-use Rattle.std.proofs.Common.{rules}
-use Rattle.view.proofs.Laws.{row_absent, row_present}
+use Rattle.view.specs.Views.{holds_name_at}
+use Rattle.view.proofs.Laws.{every_front, fit_parts}
 use Rattle.view.proofs.table_view.TableView.row_name.Goals as goal
 
-pub returns-then-row-rows : goal.returns-then-row-rows
-returns-then-row-rows c = search (rules, row_absent)
-
-pub returns : goal.returns
-returns c = search (rules, row_present)
+pub name_among-requires : goal.name_among-requires
+name_among-requires c = every_front (holds_name_at c.args.self.now.text.now) c.rows.result c.args.self.now.places.now
+    (fit_parts _ c.args.self.now.words.now _ c.args.self.now.fit).names
