@@ -44,7 +44,6 @@ pub fn run(
 }
 
 // Reads the table text, and puts the parts of the job at the front of the output.
-// The pieces of memory come one by one: a struct of them would be made and taken apart for this one call.
 fn write_job(
     text: &[u8],
     words: &mut [u64],

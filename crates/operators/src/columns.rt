@@ -70,9 +70,8 @@ fn columns_of(rows: &[u64], width: usize) -> [u64; MAX_SIGNALS]
     ensures turned { Turned width rows.now result }
 {
     let mut columns = [0; MAX_SIGNALS];
-    // A loop: array::from_fn would make the columns past the width too, and with a test for them in its closure it had no proof.
-    for k in 0..width {
-        columns[k] = column_of(rows, k);
+    for (k, column) in columns[..width].iter_mut().enumerate() {
+        *column = column_of(rows, k);
     }
     columns
 }

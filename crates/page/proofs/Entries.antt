@@ -1,6 +1,6 @@
 -- A line that an entry puts: its width is tested, then the room for its bytes, and then they are put.
-use Rattle.std.proofs.Common.{◌≡◌, ℕ, ◌+◌, ◌≤◌, Bool, true, false, cond, length, Ok, Err, Result, sym, refl, ap, ◌∙◌, arith}
-use Rattle.std.proofs.lemmas.Bool.{and_from, and_right, cond-false, cond-true, leb-true}
+use Rattle.std.proofs.Common.{◌≡◌, ℕ, ◌+◌, ◌≤◌, Bool, Option, None, Some, true, false, cond, length, Ok, Err, Result, sym, refl, ap, ◌∙◌, arith}
+use Rattle.std.proofs.lemmas.Bool.{and_from, and_right, cond-false, cond-true, leb-true, true≢false}
 use Rattle.output.specs.declared.faults.OutputFault.{OutputFault}
 use Rattle.output.specs.declared.faults.OutputFault.TheVariants.{Full}
 use Rattle.page.specs.declared.faults.PageFault.{PageFault}
@@ -20,8 +20,13 @@ pub failed : {E : Type 0} (test : Bool) (e f : E) → ◌≡◌ {A = Result Unit
 failed true e f is = absurd (let z : ◌≡◌ {A = ℕ} 0 1 = cc in omega arith)
 failed false e f is = (refl, cc)
 
+-- what fits, fits where no byte is kept
+free_behind : (kept : Option ℕ) (at bytes size : ℕ) → fits_leaving kept at bytes size ≡ true → at + bytes ≤ size
+free_behind None at bytes size h = absurd (true≢false (sym h))
+free_behind (Some kept) at bytes size h = let all = leb-true _ _ h in omega arith
+
 -- `bytes` is what the code has for the line's length
-module _ (line : Line) (kept : ℕ) (out : Output) (same : line.same_width ≡ true) (bytes : ℕ) (long : bytes ≡ length line.bytes) where
+module _ (line : Line) (kept : Option ℕ) (out : Output) (same : line.same_width ≡ true) (bytes : ℕ) (long : bytes ≡ length line.bytes) where
   abbrev room : ℕ → Bool
   room n = fits_leaving kept out.at n (length out.bytes.now)
 
@@ -43,7 +48,7 @@ module _ (line : Line) (kept : ℕ) (out : Output) (same : line.same_width ≡ t
 
     -- the room there is
     pub entry_room : out.at + length line.bytes ≤ length out.bytes.now
-    entry_room = let all = leb-true _ _ yes in omega arith
+    entry_room = free_behind kept out.at (length line.bytes) (length out.bytes.now) yes
 
     -- all is put
     pub entry_put : (r : Result Unit PageFault) (s : Result Unit OutputFault) (later : Output) → r ≡ Ok tt → Puts line.bytes out s later → PutsLine line kept out r later

@@ -1,6 +1,6 @@
 -- What a page and its output hold after a line was granted or refused.
-use Rattle.std.proofs.Common.{◌≡◌, ℕ, ◌+◌, ◌-◌, ◌^◌, ◌<◌, ◌≤◌, Bool, true, false, cond, ◌&&◌, ltb, List, length, Ok, Err, Result, sym, refl, ap, ap₂, ◌∙◌, arith}
-use Rattle.std.proofs.lemmas.Bool.{and_from, cond-false, cond-true, leb-true, lt-leb, and_parts}
+use Rattle.std.proofs.Common.{◌≡◌, ℕ, ◌+◌, ◌≤◌, Bool, true, false, Option, None, Some, cond, ◌&&◌, ltb, List, length, Ok, Err, Result, sym, refl, ap, ap₂, ◌∙◌, arith}
+use Rattle.std.proofs.lemmas.Bool.{and_from, cond-false, cond-true, leb-true, and_parts}
 use Rattle.output.specs.declared.faults.OutputFault.TheVariants.{Full}
 use Rattle.output.specs.declared.output.Output.{Output}
 use Rattle.output.specs.Puts.{put_at}
@@ -38,14 +38,14 @@ module _ (page : Page) (line : Line) (out : List ℕ) where
     pub number : lines ≡ lines_with page line out
     pub reserved : page.at + reserve ≤ length out → at + reserve ≤ length later
 
-  -- the line is put, and the bytes of the foot are kept free, or all where the page takes no more lines
-  module _ (some : 0 < length line.bytes) (kept : ℕ) (is : kept ≡ cond (ltb page.lines max_lines) reserve (2 ^ 64 - 1)) (small : length out < 2 ^ 64) where
+  -- the line is put, and the bytes of the foot are kept free, where the page takes more lines
+  module _ (kept : Option ℕ) (is : kept ≡ cond (ltb page.lines max_lines) (Some reserve) None) where
     fits : fits_leaving kept page.at (length line.bytes) (length out) ≡ takes_line page line.bytes out
     fits = ap (λ k. fits_leaving k page.at (length line.bytes) (length out)) is ∙ by_lines (ltb page.lines max_lines)
       where
-        by_lines : (free : Bool) → fits_leaving (cond free reserve (2 ^ 64 - 1)) page.at (length line.bytes) (length out) ≡ (free && fits_before page.at line.bytes out)
+        by_lines : (free : Bool) → fits_leaving (cond free (Some reserve) None) page.at (length line.bytes) (length out) ≡ (free && fits_before page.at line.bytes out)
         by_lines true = refl
-        by_lines false = lt-leb _ _ (omega arith)
+        by_lines false = refl
 
     module _ (before after : Output) (at : before.at ≡ page.at) (bytes : before.bytes.now ≡ out) (r : Result Unit PageFault) (puts : PutsLine line kept before r after) where
       fits_here : fits_leaving kept before.at (length line.bytes) (length before.bytes.now) ≡ takes_line page line.bytes out

@@ -1,7 +1,8 @@
 -- The names of the signals that belong to a set.
-use Rattle.std.proofs.Common.{◌≡◌, ℕ, suc, ◌+◌, ◌*◌, ◌<◌, ◌≤◌, Bool, true, false, cond, eqb, List, [], ◌∷◌, length, get_or, drop, Decides, sym, ap, ◌∙◌, subst, arith, length-append}
+use Rattle.std.proofs.Common.{◌≡◌, ℕ, zero, suc, ◌+◌, ◌*◌, ◌-◌, ◌<◌, ◌≤◌, Bool, true, false, cond, eqb, List, [], ◌∷◌, length, get_or, drop, Decides, sym, ap, ◌∙◌, subst, arith, length-append}
 use Rattle.std.proofs.lemmas.List.{drop_all, drop_more, get_or-map, length-drop, length-map}
-use Rattle.std.proofs.lemmas.Bool.{cond-false, cond-true, eq-eqb, ne_eqb, true≢false}
+use Rattle.std.proofs.lemmas.Bool.{cases_lt, cond-false, cond-true, eq-eqb, ne_eqb, true≢false}
+use Rattle.std.proofs.Math.Logic.{◌⊎◌, inl, inr}
 use Rattle.page.specs.Names.{left, names_of}
 use Rattle.page.specs.Pages.{chosen, chosen_from, name_fields}
 use Rattle.page.specs.declared.chosen.Chosen.{Chosen}
@@ -69,9 +70,35 @@ module _ (view : TableView) (set : Set) (whole : set.width ≡ signal_count view
       let out : eqb (bit_of set.width i set.word) 1 ≡ false = ne_eqb _ 1 (λ e. not record { in_width = lt; has = e }) in
       split ∙ cond-false _ _ _ out
 
+-- signals that do not belong to it are passed over
+pub passed : (view : TableView) (set : Set) (whole : set.width ≡ signal_count view) (d i : ℕ) → i + d ≤ set.width → ((k : ℕ) → i ≤ k → k < i + d → HasSignal set k → ⊥)
+    → chosen_from set.width set.word i (drop i (signal_names view)) ≡ chosen_from set.width set.word (i + d) (drop (i + d) (signal_names view))
+passed view set whole zero i le not = ap (λ k. chosen_from set.width set.word k (drop k (signal_names view))) (omega arith)
+passed view set whole (suc d) i le not =
+    next_lacks view set whole i (omega arith) (not i (omega arith) (omega arith))
+    ∙ passed view set whole d (i + 1) (omega arith) (λ k a b. not k (omega arith) (omega arith))
+    ∙ ap (λ k. chosen_from set.width set.word k (drop k (signal_names view))) (omega arith)
+
 -- behind the last signal no name is left
-pub none_left : (names : Names) → names.of.set.width ≤ names.next → left names ≡ []
-none_left names le = ap (chosen_from names.of.set.width names.of.set.word names.next) (drop_all names.next (signal_names names.of.view) (omega (arith, length_names names.of.view, names.of.whole)))
+pub none_from : (of : Chosen) (i : ℕ) → of.set.width ≤ i → chosen_from of.set.width of.set.word i (drop i (signal_names of.view)) ≡ []
+none_from of i le = ap (chosen_from of.set.width of.set.word i) (drop_all i (signal_names of.view) (omega (arith, length_names of.view, of.whole)))
+
+-- what is left of the names where no signal that is to come belongs to the set, or one is the first
+pub none_left : (names : Names) → ((k : ℕ) → names.signals.start ≤ k → k < names.signals.end → HasSignal names.of.set k → ⊥) → left names ≡ []
+none_left names not = by (cases_lt names.signals.start names.of.set.width) where
+  by : (names.signals.start < names.of.set.width) ⊎ (names.of.set.width ≤ names.signals.start) → left names ≡ []
+  by (inl lt) =
+      passed names.of.view names.of.set names.of.whole (names.of.set.width - names.signals.start) names.signals.start (omega arith) (λ k a b. not k a (omega (arith, names.all)))
+      ∙ none_from names.of (names.signals.start + (names.of.set.width - names.signals.start)) (omega arith)
+  by (inr le) = none_from names.of names.signals.start le
+
+pub first_left : (names : Names) (i : ℕ) → names.signals.start ≤ i → i < names.signals.end → HasSignal names.of.set i → ((k : ℕ) → names.signals.start ≤ k → k < i → HasSignal names.of.set k → ⊥)
+    → (bytes : List ℕ) (place : Place) → place ≡ signal_place (length names.of.view.words.now) names.of.view.places.now i → bytes ≡ part_at names.of.view.text.now place
+    → left names ≡ bytes ∷ chosen_from names.of.set.width names.of.set.word (i + 1) (drop (i + 1) (signal_names names.of.view))
+first_left names i ge lt has not bytes place ep eb =
+    passed names.of.view names.of.set names.of.whole (i - names.signals.start) names.signals.start (omega (arith, names.all)) (λ k a b. not k a (omega arith))
+    ∙ ap (λ k. chosen_from names.of.set.width names.of.set.word k (drop k (signal_names names.of.view))) (omega arith)
+    ∙ next_has names.of.view names.of.set names.of.whole i (omega (arith, names.all)) has bytes place ep eb
 
 -- ---- the bytes of the names
 

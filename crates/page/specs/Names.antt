@@ -11,4 +11,4 @@ names_of c = chosen c.set.width c.set.word (signal_names c.view)
 
 -- those that an iterator has not given yet
 abbrev pub left : Names → List (List ℕ)
-left names = chosen_from names.of.set.width names.of.set.word names.next (drop names.next (signal_names names.of.view))
+left names = chosen_from names.of.set.width names.of.set.word names.signals.start (drop names.signals.start (signal_names names.of.view))

@@ -20,22 +20,23 @@ pub trait Entry {
     // No line is empty.
     ghost some: { (entry : Self) (names : List (List ℕ)) (place : ℕ) → 0 < length (shown entry names place).bytes };
 
-    // Puts the line, and leaves `kept` bytes free behind it; an entry of another width than the view's, and a line that does not fit, leave all as before.
+    // Puts the line, and leaves `kept` bytes free behind it, or with none to keep finds the output full; an entry of another width than the view's, and a line that does not fit, leave all as before.
     fn put_line(
         &self,
         out: &mut Output,
-        kept: usize,
+        kept: Option<usize>,
         view: &TableView,
         place: usize,
     ) -> Result<(), PageFault>
         ensures puts { PutsLine (shown self.now (signal_names view.now) place) kept out.old result out.new };
 }
 
-// Refuses bytes that an output has no room for where `kept` bytes stay free behind them.
-pub(crate) fn check_room(out: &Output, kept: usize, bytes: usize) -> Result<(), OutputFault>
+// Refuses bytes that an output has no room for where `kept` bytes stay free behind them, and all where there is no such number.
+pub(crate) fn check_room(out: &Output, kept: Option<usize>, bytes: usize) -> Result<(), OutputFault>
     requires some { 0 < bytes }
     ensures answer { result ≡ (if fits_leaving kept out.now.at bytes (length out.now.bytes.now) then Ok tt else Err Full) }
 {
+    let kept = kept.ok_or(OutputFault::Full)?;
     match out.room().checked_sub(kept) {
         Some(room) if bytes <= room => Ok(()),
         _ => Err(OutputFault::Full),

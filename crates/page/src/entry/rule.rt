@@ -25,7 +25,7 @@ impl Entry for Rule {
     fn put_line(
         &self,
         out: &mut Output,
-        kept: usize,
+        kept: Option<usize>,
         view: &TableView,
         _place: usize,
     ) -> Result<(), PageFault>

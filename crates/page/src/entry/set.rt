@@ -23,7 +23,7 @@ impl Entry for Set {
     fn put_line(
         &self,
         out: &mut Output,
-        kept: usize,
+        kept: Option<usize>,
         view: &TableView,
         place: usize,
     ) -> Result<(), PageFault>

@@ -1,4 +1,4 @@
-ghost use Rattle.std.specs.Prelude.{◌≡◌, ◌+◌, ◌-◌, ◌^◌, ◌≤◌, length, Ok, if◌then◌else◌, nat_lt};
+ghost use Rattle.std.specs.Prelude.{◌≡◌, ◌+◌, ◌-◌, ◌^◌, ◌≤◌, length, None, Ok, Some, if◌then◌else◌, nat_lt};
 ghost use Rattle.output.specs.Puts.{after_put, put_answer_of};
 ghost use Rattle.page.specs.Pages.{at_with, foot, line_answer, lines_with, max_lines, output_with, reserve};
 ghost use Rattle.view.specs.Shown.{signal_names};
@@ -46,15 +46,11 @@ impl Page {
         Ok(())
     }
 
-    // How many bytes stay free behind a line: those of the foot, and all where the page takes no more lines.
-    fn kept(&self) -> usize
-        ensures value { result ≡ (if nat_lt self.now.lines max_lines then reserve else 2 ^ 64 - 1) }
+    // How many bytes stay free behind a line: those of the foot; none where the page takes no more lines.
+    fn kept(&self) -> Option<usize>
+        ensures value { result ≡ (if nat_lt self.now.lines max_lines then Some reserve else None) }
     {
-        if self.lines < MAX_LINES {
-            FOOT_BYTES
-        } else {
-            usize::MAX
-        }
+        (self.lines < MAX_LINES).then_some(FOOT_BYTES)
     }
 
     // Ends the page with its foot, and answers the position behind it; an output without room for it, which is never one that the page was begun on, stays as before.

@@ -47,7 +47,7 @@ impl Page {
         let mut output = Output::new(out, at);
         check_room(
             &output,
-            FOOT_BYTES,
+            Some(FOOT_BYTES),
             word.len() + HEAD_BYTES + digits(number),
         )?;
         output.put_record(word, &[number])?;

@@ -1,7 +1,6 @@
-use Rattle.std.proofs.Common.{◌≡◌, length}
 use Rattle.operators.specs.Columns.{Turned}
 use Rattle.operators.proofs.columns.columns_of.Given as goal
 
 -- the columns so far
 abbrev pub invariant-loop-k : goal.invariant-loop-k
-invariant-loop-k l = (length l.columns ≡ 60) × Turned l.k l.rows l.columns
+invariant-loop-k l = Turned l.k l.rows l.column-items

@@ -10,7 +10,10 @@ impl<'t, 'r, 'p> Chosen<'t, 'r, 'p> {
     pub(in crate::chosen) fn names(&self) -> Names<'t, 'r, 'p>
         ensures all { left result ≡ names_of self.now }
     {
-        Names { of: *self, next: 0 }
+        Names {
+            of: *self,
+            signals: 0..self.set.width(),
+        }
     }
 }
 
@@ -23,13 +26,8 @@ impl<'t, 'r, 'p> Iterator for Names<'t, 'r, 'p> {
     ghost remaining = { item_count left };
 
     fn next(&mut self) -> Option<&'t [u8]> {
-        while self.next < self.of.set.width() {
-            let signal = self.next;
-            self.next += 1;
-            if self.of.set.has(signal) {
-                return Some(self.of.view.signal_name(signal).bytes);
-            }
-        }
-        None
+        let set = self.of.set;
+        let signal = self.signals.find(|signal| set.has(*signal))?;
+        Some(self.of.view.signal_name(signal).bytes)
     }
 }
