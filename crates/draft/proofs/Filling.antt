@@ -1,5 +1,5 @@
 -- The filling of a tray with the rules of a base: what it holds at each turn, at the end, and where it is full.
-use Rattle.std.proofs.Common.{◌≡◌, ℕ, suc, ◌+◌, ◌-◌, ◌^◌, ◌<◌, ◌≤◌, min, true, false, List, [], ◌∷◌, ◌++◌, length, take, drop, Some, None, Ok, Option, sym, refl, ap, ◌∙◌, subst, append_assoc, arith, length-append, length-take}
+use Rattle.std.proofs.Common.{◌≡◌, ℕ, suc, ◌+◌, ◌-◌, ◌^◌, ◌<◌, ◌≤◌, min, true, false, List, [], ◌∷◌, ◌++◌, length, take, drop, Some, None, Ok, Option, sym, refl, ap, ◌∙◌, subst, append_assoc, arith, length-append, length-take-le}
 use Rattle.draft.specs.declared.call.Advance.{Advance}
 use Rattle.draft.specs.declared.call.Advance.TheVariants as found
 use Rattle.draft.specs.declared.call.DraftGranted.TheVariants.{Advanced}
@@ -23,7 +23,7 @@ use Rattle.theory.specs.Bases.{BaseUpto, base_below, rule_of}
 use Rattle.theory.specs.Closures.{Closure, LeastClosed}
 use Rattle.theory.specs.Rules.{Implication, close_s}
 use Rattle.tray.specs.declared.Tray.{Tray}
-use Rattle.tray.specs.Tray.{Kept, capacity, entries, max_entries}
+use Rattle.tray.specs.Tray.{Kept, entries, max_entries}
 use Rattle.theory.proofs.Ganter.{base_base_below, base_below_front, ganter_more}
 
 -- what the tray holds: the rules up to the mark
@@ -136,7 +136,7 @@ pub filled_memory :
     (m : ℕ) (c : ℕ → ℕ) (new t : Tray Rule) (before after : List Rule) → after ≡ t.memory.now → new.memory.now ≡ before → Kept new t
     → implications (entries t) ≡ take (min (length before) max_entries) (base_below m c (2 ^ m)) → AllByRecursion (λ r. r.premise.width ≡ m) (entries t) → Filled m c before after
 filled_memory m c new t before after same lent kept rules widths =
-    let place : length (entries t) ≡ min t.count (capacity t) = simp length-take (omega arith) in
+    let place : length (entries t) ≡ t.count = length-take-le t.count t.memory.now t.within in
     record {
       kept = entries t;
       front = ap (take (length (entries t))) same ∙ ap (λ n. take n t.memory.now) place;

@@ -1,5 +1,5 @@
 -- A tray that is filled by the steps of a survey from the empty set on.
-use Rattle.std.proofs.Common.{Ok, Err, ◌≡◌, ℕ, suc, ◌+◌, ◌-◌, ◌^◌, ◌<◌, ◌≤◌, min, true, false, eqb, ◌⊎◌, List, [], ◌∷◌, ◌++◌, length, take, drop, sym, refl, ap, ◌∙◌, subst, inl, inr, append_assoc, arith, length-append, length-take}
+use Rattle.std.proofs.Common.{Ok, Err, ◌≡◌, ℕ, suc, ◌+◌, ◌-◌, ◌^◌, ◌<◌, ◌≤◌, min, true, false, eqb, ◌⊎◌, List, [], ◌∷◌, ◌++◌, length, take, drop, sym, refl, ap, ◌∙◌, subst, inl, inr, append_assoc, arith, length-append, length-take-le}
 use Rattle.std.specs.List.{AllByRecursion}
 use Rattle.std.proofs.lemmas.List.{map_push, length-map, take_all, take_at}
 use Rattle.std.proofs.lemmas.Bool.{cases_Bool, cond-true, cond-false, eqb-true}
@@ -136,7 +136,7 @@ module _ {A : Type 0} (span : A → ℕ) (means : A → ℕ → ℕ) (operator o
 
 -- a tray has no more entries than it has place for
 pub entries_few : {T : Type 0} (t : Tray T) → length (entries t) ≤ capacity t
-entries_few t = simp length-take (omega arith)
+entries_few t = omega (arith, length-take-le t.count t.memory.now t.within, t.within, t.few)
 
 -- a tray that kept its memory has place for as many as before
 pub kept_room : {T : Type 0} (before cleared after : Tray T) → cleared.memory.now ≡ before.memory.now → Kept cleared after → capacity after ≡ capacity before
@@ -146,7 +146,7 @@ kept_room before cleared after same kept = ap (λ n. min n max_entries) (kept.si
 pub filled_memory : (m : ℕ) (c : ℕ → ℕ) (new t : Tray Set) (before after : List Set) → after ≡ t.memory.now → new.memory.now ≡ before → Kept new t
     → words_of (entries t) ≡ take (min (length before) max_entries) (closed_below c (2 ^ m)) → AllByRecursion (λ s. s.width ≡ m) (entries t) → Filled m c before after
 filled_memory m c new t before after same lent kept words widths =
-    let place : length (entries t) ≡ min t.count (capacity t) = simp length-take (omega arith) in
+    let place : length (entries t) ≡ t.count = length-take-le t.count t.memory.now t.within in
     record {
       kept = entries t;
       front = ap (take (length (entries t))) same ∙ ap (λ n. take n t.memory.now) place;

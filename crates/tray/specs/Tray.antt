@@ -16,7 +16,7 @@ capacity t = min (length t.memory.now) max_entries
 
 -- the front of the memory, as far as it is counted
 abbrev pub entries : {T : Type 0} → Tray T → List T
-entries t = take (min t.count (capacity t)) t.memory.now
+entries t = take t.count t.memory.now
 
 -- the tray stands on the same memory, of the same length, which is as before behind the entries
 pub record Kept {T : Type 0} (before after : Tray T) : Type 0 where
