@@ -1,10 +1,12 @@
-ghost use Rattle.std.specs.Prelude.{◌≡◌, Decides, MatchOption, bit_and};
-ghost use Rattle.operators.specs.Heeded.{heeded, of_width};
+ghost use Rattle.std.specs.Prelude.{◌≡◌, take, Decides, MatchOption, ◌≢◌, bit_and};
+ghost use Rattle.operators.specs.Heeded.{heeded, of_width, of_width_within, max_rules};
 ghost use Rattle.operators.specs.Trials.{Alike};
-ghost use Rattle.theory.specs.Rules.{close_s, pass, proper};
+ghost use Rattle.theory.specs.Rules.{LeastKeeping, close_s, pass, proper};
+ghost use Rattle.theory.proofs.Rules.{close_closure};
 
 use crate::by_rules::{ByRules, Firing};
 use crate::heeded::first_rules;
+use crate::operator::Operator;
 use crate::word::are_alike;
 use sets::rule::Rule;
 use sets::set::Set;
@@ -16,11 +18,47 @@ pub struct WhereProper;
 // The closure S over a list of rules.
 pub type ProperRuleClosure<'a> = ByRules<'a, WhereProper>;
 
-impl Firing for WhereProper {
+// An impl for each closure, and not one for both: of a constant that a type parameter gives nothing is known, and the clause of `mark` would not hold it.
+impl<'a> Operator for ByRules<'a, WhereProper> {
     const LETTER: u8 = b'S';
 
-    ghost LETTER = { 83 };
+    ghost letter = { 83 };
 
+    ghost span = { λ s. s.like.width };
+
+    ghost means = { λ s. close_s s.like.width (heeded s.like.width s.rules.now) };
+
+    ghost closes = { λ s. close_closure proper s.like.width (heeded s.like.width s.rules.now) (of_width_within s.like.width (take max_rules s.rules.now)) s.like.narrow };
+
+    // The letter that pages over the operator carry.
+    fn mark(&self) -> u8 {
+        Self::LETTER
+    }
+
+    // The number of signals of the sets that the operator closes.
+    fn width(&self) -> usize {
+        self.like.width()
+    }
+
+    // The least set that contains the set and keeps every rule that counts; a set of another width is given back.
+    fn closure(&self, set: Set) -> Set
+        ensures width { result.width ≡ set.width }
+        ensures closed { set.width ≡ self.now.like.width
+            → result.word ≡ close_s self.now.like.width (heeded self.now.like.width self.now.rules.now) set.word }
+        ensures other { (set.width ≢ self.now.like.width) → result ≡ set }
+        ensures least { set.width ≡ self.now.like.width
+            → LeastKeeping proper set.width (heeded set.width self.now.rules.now) set.word result.word }
+    {
+        self.least_from(set)
+    }
+
+    // The closure of a set, or none where it brings a signal above the bit.
+    fn trial(&self, set: Set, bit: usize) -> Option<Set> {
+        self.least_tried(set, bit)
+    }
+}
+
+impl Firing for WhereProper {
     ghost trigger = { proper };
 
     // The word of the closure by passes over the rules; the first rule that brings a signal above the bit breaks them off.

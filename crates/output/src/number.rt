@@ -15,6 +15,9 @@ impl Output<'_> {
     }
 }
 
+// The most digits that a number has.
+pub const MAX_DIGITS: usize = 20;
+
 // Counts the decimal digits of a number.
 pub fn digits(n: usize) -> usize
     ensures count { result ≡ length (decimal n) }

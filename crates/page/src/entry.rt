@@ -12,8 +12,14 @@ use view::table_view::TableView;
 mod rule;
 mod set;
 
+// The kinds of entries: no other crate can add one, so that every line of a page is that of a set or of a rule.
+mod kinds {
+    // An entry of a kind that pages show.
+    pub trait Kind {}
+}
+
 // What a page shows on one line.
-pub trait Entry {
+pub trait Entry: kinds::Kind {
     // The line, by the names of the signals and the entry's place in its list.
     ghost shown: { Self → List (List ℕ) → ℕ → Line };
 

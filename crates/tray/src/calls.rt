@@ -20,7 +20,8 @@ impl<'a, T: Copy> Tray<'a, T> {
     pub fn count(&self) -> usize
         ensures value { result ≡ length (entries self.now) }
     {
-        self.count
+        let Tray { count, .. } = self;
+        *count
     }
 
     // The number of entries that the tray has place for.

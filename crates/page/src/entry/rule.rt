@@ -4,6 +4,7 @@ ghost use Rattle.page.specs.Pages.{line_of_rule, rule_line_some, shown_rule};
 ghost use Rattle.sets.specs.Set.{Fit};
 ghost use Rattle.view.specs.Shown.{signal_names};
 
+use super::kinds::Kind;
 use super::{Entry, check_room};
 use crate::chosen::Chosen;
 use crate::faults::PageFault;
@@ -15,6 +16,8 @@ use view::table_view::TableView;
 
 // The bytes of a rule's line besides its names.
 const RULE_BYTES: usize = 5;
+
+impl Kind for Rule {}
 
 // A rule, on the rules page.
 impl Entry for Rule {

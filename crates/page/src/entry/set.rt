@@ -3,6 +3,7 @@ ghost use Rattle.page.specs.Lines.{PutsLine};
 ghost use Rattle.page.specs.Pages.{line_of_set, set_line_some, shown_set};
 ghost use Rattle.view.specs.Shown.{signal_names};
 
+use super::kinds::Kind;
 use super::{Entry, check_room};
 use crate::chosen::Chosen;
 use crate::faults::PageFault;
@@ -13,6 +14,8 @@ use view::table_view::TableView;
 
 // The bytes of a set's line besides its place and its names.
 const SET_BYTES: usize = 5;
+
+impl Kind for Set {}
 
 // A closed set, on the closed page.
 impl Entry for Set {

@@ -2,7 +2,7 @@ use Rattle.std.proofs.Common.{ap, ◌∙◌}
 use Rattle.theory.specs.Rules.{close}
 use Rattle.operators.specs.Heeded.{heeded}
 use Rattle.operators.proofs.Told.{close_told, least_found}
-use Rattle.operators.proofs.by_rules.ByRulesOperator.closure.Goals as goal
+use Rattle.operators.proofs.by_rules.ByRules.least_from.Goals as goal
 
 pub with_word-requires : goal.with_word-requires
 with_word-requires g c =

@@ -1,5 +1,5 @@
 use Rattle.operators.proofs.Told.{close_told}
-use Rattle.operators.proofs.by_rules.ByRulesOperator.trial.Goals as goal
+use Rattle.operators.proofs.by_rules.ByRules.least_tried.Goals as goal
 
 pub with_word-requires : goal.with_word-requires
 with_word-requires g c =
