@@ -298,10 +298,6 @@ module _
   narrowed_all none =
       sym (sub_full m word so_far.below).same ∙ ap (λ l. bit_and word (common m l wanted)) (sym (no_items left none)) ∙ so_far.meets
 
-  -- no block is left
-  pub narrowed_out : length blocks ≡ 0 → word ≡ common m rows wanted
-  narrowed_out none = narrowed_all (subst (BlocksLeft m left) (no_items blocks none) so_far.turned)
-
 -- as the call of a block tells it
 pub narrowed_as :
     {after m n : ℕ} {rows chunk : List ℕ} (word wanted : ℕ) → after ≡ bit_and word (common m rows wanted) → m ≡ n → rows ≡ chunk

@@ -1,44 +1,39 @@
 -- The signals common to the rows of a table that is gone through, and what calls tell of them.
-use Rattle.std.proofs.Common.{◌≡◌, ℕ, ◌-◌, ◌^◌, ◌<◌, true, false, ◌==◌, ◌⊎◌, List, [], ◌∷◌, ◌++◌, filter, fold, append_assoc, sym, refl, ap, ◌∙◌, inl, inr}
+use Rattle.std.proofs.Common.{◌≡◌, ℕ, ◌-◌, ◌^◌, ◌<◌, true, false, cond, ◌==◌, ◌⊎◌, List, [], ◌∷◌, ◌++◌, fold, append_assoc, sym, ap, ◌∙◌, inl, inr}
 use lib.Bits.{bit_and}
 use Rattle.std.proofs.lemmas.List.{append-nil}
-use Rattle.std.proofs.lemmas.Bool.{cases_Bool, eq-eqb, cond-true, cond-false}
+use Rattle.std.proofs.lemmas.Bool.{cases_Bool, eq-eqb, eqb-true, true≢false, cond-true, cond-false}
 use Rattle.theory.specs.Rows.{common}
-use Rattle.theory.proofs.Lattice.{zero_sub}
-use Rattle.theory.proofs.Rows.{common_push_in, signals_in_common, common_lt}
+use Rattle.theory.proofs.Rows.{common_push_in, common_push_out, signals_in_common, common_lt}
 use Rattle.operators.specs.TableClosure.{Shared}
 
 -- ---- the rows that contain a set, and what they have in common
 
--- what all rows have in common, one row after the other
-common_fold : (m : ℕ) (done rows : List ℕ) → fold (λ word row. bit_and word row) (common m done 0) rows ≡ common m (done ++ rows) 0
-common_fold m done [] = ap (λ l. common m l 0) (sym (append-nil done))
-common_fold m done (r ∷ rows) =
-    ap (λ word. fold (λ word row. bit_and word row) word rows) (sym (common_push_in m 0 r done (zero_sub r)))
-    ∙ common_fold m (done ++ r ∷ []) rows ∙ ap (λ l. common m l 0) (append_assoc done (r ∷ []) rows)
+-- what a row leaves of a word: the signals in common where it contains x, else the word
+abbrev pub left_by : (x word row : ℕ) → ℕ
+left_by x word row = cond (bit_and x row == x) (bit_and word row) word
 
--- they are those of the rows that pass the test
-common_filtered : (m x : ℕ) (rows : List ℕ) → common m (filter (λ r. bit_and x r == x) rows) 0 ≡ common m rows x
-common_filtered m x [] = refl
-common_filtered m x (r ∷ rows) = at (cases_Bool (bit_and x r == x)) (common_filtered m x rows)
+-- one row more
+common_pushed : (m x : ℕ) (done : List ℕ) (r : ℕ) → common m (done ++ r ∷ []) x ≡ left_by x (common m done x) r
+common_pushed m x done r = at (cases_Bool (bit_and x r == x))
   where
-    passed : List ℕ
-    passed = filter (λ r. bit_and x r == x) rows
+    at : (bit_and x r == x ≡ true) ⊎ (bit_and x r == x ≡ false) → common m (done ++ r ∷ []) x ≡ left_by x (common m done x) r
+    at (inl t) =
+        common_push_in m x r done record { same = eqb-true (bit_and x r) x t }
+        ∙ sym (cond-true (bit_and x r == x) (bit_and (common m done x) r) (common m done x) t)
+    at (inr t) =
+        common_push_out m x r done (λ p. true≢false (sym (eq-eqb (bit_and x r) x p.same) ∙ t))
+        ∙ sym (cond-false (bit_and x r == x) (bit_and (common m done x) r) (common m done x) t)
 
-    at :
-        (bit_and x r == x ≡ true) ⊎ (bit_and x r == x ≡ false) → common m passed 0 ≡ common m rows x
-        → common m (filter (λ r. bit_and x r == x) (r ∷ rows)) 0 ≡ common m (r ∷ rows) x
-    at (inl t) e =
-        ap (λ l. common m l 0) (cond-true (bit_and x r == x) (r ∷ passed) passed t)
-        ∙ cond-true (bit_and 0 r == 0) (bit_and r (common m passed 0)) (common m passed 0) (eq-eqb (bit_and 0 r) 0 (zero_sub r).same)
-        ∙ ap (bit_and r) e ∙ sym (cond-true (bit_and x r == x) (bit_and r (common m rows x)) (common m rows x) t)
-    at (inr t) e =
-        ap (λ l. common m l 0) (cond-false (bit_and x r == x) (r ∷ passed) passed t)
-        ∙ e ∙ sym (cond-false (bit_and x r == x) (bit_and r (common m rows x)) (common m rows x) t)
+-- what the rows that contain x have in common, one row after the other
+common_fold : (m x : ℕ) (done rows : List ℕ) → fold (left_by x) (common m done x) rows ≡ common m (done ++ rows) x
+common_fold m x done [] = ap (λ l. common m l x) (sym (append-nil done))
+common_fold m x done (r ∷ rows) =
+    ap (λ word. fold (left_by x) word rows) (sym (common_pushed m x done r))
+    ∙ common_fold m x (done ++ r ∷ []) rows ∙ ap (λ l. common m l x) (append_assoc done (r ∷ []) rows)
 
-pub common_folded :
-    (m x : ℕ) (rows : List ℕ) → fold (λ word row. bit_and word row) (2 ^ m - 1) (filter (λ r. bit_and x r == x) rows) ≡ common m rows x
-common_folded m x rows = common_fold m [] (filter (λ r. bit_and x r == x) rows) ∙ common_filtered m x rows
+pub common_folded : (m x : ℕ) (rows : List ℕ) → fold (left_by x) (2 ^ m - 1) rows ≡ common m rows x
+common_folded m x rows = common_fold m x [] rows
 
 -- ---- what calls tell of a table
 

